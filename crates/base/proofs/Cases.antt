@@ -1,0 +1,50 @@
+-- Laws of choices and of tests that must all hold.
+use mathlib.Core.Path.{_≡_, refl, sym, _∙_}
+use mathlib.Core.Bool.{Bool, true, false, not, _&&_, false≢true}
+use mathlib.Core.List.{List, [], _∷_}
+use borrow.Author.Tests.{not-true, not-false}
+use Rattle.base.specs.Choice.{pick, every}
+
+pub false-true : {A : Type 0} → false ≡ true → A
+false-true e = absurd (false≢true e)
+
+-- a test either way, with its outcome as an equation
+pub by-cases : {P : Type 0} (t : Bool) → (t ≡ true → P) → (t ≡ false → P) → P
+by-cases true f g = f refl
+by-cases false f g = g refl
+
+pub pick-ind : {A : Type 0} (P : A → Type 0) (t : Bool) {a b : A} → (t ≡ true → P a) → (t ≡ false → P b) → P (pick t a b)
+pick-ind P true f g = f refl
+pick-ind P false f g = g refl
+
+-- what a callee says of its answer, where the code has tested `!answer`
+pub flag-no : {r t : Bool} → r ≡ t → not r ≡ true → t ≡ false
+flag-no {r} e h = sym e ∙ not-true r h
+
+pub flag-yes : {r t : Bool} → r ≡ t → not r ≡ false → t ≡ true
+flag-yes {r} e h = sym e ∙ not-false r h
+
+-- ---- tests that must all hold
+
+pub and-left : (a b : Bool) → (a && b) ≡ true → a ≡ true
+and-left true b e = refl
+and-left false b e = e
+
+pub and-right : (a b : Bool) → (a && b) ≡ true → b ≡ true
+and-right true b e = e
+and-right false b e = false-true e
+
+-- each holds
+abbrev pub Held : List Bool → Type 0
+Held [] = Unit {0}
+Held (t ∷ ts) = (t ≡ true) × Held ts
+
+pub held : (ts : List Bool) → every ts ≡ true → Held ts
+unfolding every
+held [] e = tt
+held (t ∷ ts) e = (and-left t (every ts) e, held ts (and-right t (every ts) e))
+
+pub all-held : (ts : List Bool) → Held ts → every ts ≡ true
+unfolding every
+all-held [] h = refl
+all-held (t ∷ ts) h = rw (h .0) (all-held ts (h .1))

@@ -1,0 +1,4 @@
+-- Laws that the proofs of several crates cite.
+pub mod Cases
+pub mod Runs
+pub mod Parts

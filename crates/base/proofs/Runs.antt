@@ -1,0 +1,74 @@
+-- Laws of a run of stores.
+use Prim.Native.Nat.{ℕ, zero, suc, _+_, _≤_, _<_}
+use mathlib.Core.Path.{_≡_, refl, sym, ap, _∙_}
+use mathlib.Core.Bool.{true, false}
+use mathlib.Core.List.{List, [], _∷_, _++_, append-assoc}
+use native.Mathlib.Omega.{arith}
+use native.Mathlib.Numerals.{add-one}
+use native.Mathlib.Nat.{add-zero}
+use lib.ListN.{length, getD, take, drop, set}
+use lib.Seq.{sets, getD-set-other, take-suc, length-sets, sets-eq, drop-at, take-at, length-take-le, take-all}
+use borrow.Author.Tests.{le-leb, lt-leb}
+use Rattle.base.specs.Bytes.{part, fits, put}
+use Rattle.base.proofs.Cases.{pick-ind}
+
+pub sets-snoc : (l : List ℕ) (i : ℕ) (vs : List ℕ) (a : ℕ) → sets l i (vs ++ (a ∷ [])) ≡ set (sets l i vs) (i + length vs) a
+sets-snoc l i [] a = simp add-zero
+sets-snoc l i (v ∷ vs) a = sets-snoc (set l i v) (suc i) vs a ∙ ap (λ (k : ℕ). set (sets (set l i v) (suc i) vs) k a) (omega arith)
+
+-- one turn of a loop that copies, and its end
+pub sets-turn : (l d : List ℕ) (i : ℕ) (s : List ℕ) (j : ℕ) → d ≡ sets l i (take j s) → j < length s → set d (i + j) (getD s j 0) ≡ sets l i (take (j + 1) s)
+sets-turn l d i s j q h =
+    let e : length (take j s) ≡ j = length-take-le j s (omega arith) in
+    ap (λ (r : List ℕ). set r (i + j) (getD s j 0)) q
+    ∙ sym (ap (λ (k : ℕ). sets l i (take k s)) (add-one j)
+    ∙ ap (sets l i) (take-suc s j 0 h)
+    ∙ sets-snoc l i (take j s) (getD s j 0)
+    ∙ ap (λ (k : ℕ). set (sets l i (take j s)) (i + k) (getD s j 0)) e)
+
+pub sets-done : (l d : List ℕ) (i : ℕ) (s : List ℕ) (j : ℕ) → d ≡ sets l i (take j s) → length s ≤ j → d ≡ sets l i s
+sets-done l d i s j q h = q ∙ ap (sets l i) (take-all j s h)
+
+-- before the run
+pub getD-sets-before : (l : List ℕ) (i : ℕ) (vs : List ℕ) (p : ℕ) → p < i → getD (sets l i vs) p 0 ≡ getD l p 0
+getD-sets-before l i [] p h = refl
+getD-sets-before l i (v ∷ vs) p h = getD-sets-before (set l i v) (suc i) vs p (omega arith) ∙ getD-set-other l i p v 0 (λ e. omega arith)
+
+-- behind the run
+pub getD-sets-after : (l : List ℕ) (i : ℕ) (vs : List ℕ) (p : ℕ) → i + length vs ≤ p → getD (sets l i vs) p 0 ≡ getD l p 0
+getD-sets-after l i [] p h = refl
+getD-sets-after l i (v ∷ vs) p h = getD-sets-after (set l i v) (suc i) vs p (omega arith) ∙ getD-set-other l i p v 0 (λ e. omega arith)
+
+-- the run itself
+pub part-sets : (l : List ℕ) (i : ℕ) (vs : List ℕ) → i + length vs ≤ length l → part (sets l i vs) i (length vs) ≡ vs
+part-sets l i vs h =
+    ap (λ (r : List ℕ). take (length vs) (drop i r)) (sets-eq vs l i h ∙ append-assoc (take i l) vs (drop (i + length vs) l))
+    ∙ ap (take (length vs)) (drop-at (take i l) (vs ++ drop (i + length vs) l) i (length-take-le i l (omega arith)))
+    ∙ take-at vs (drop (i + length vs) l) (length vs) refl
+
+-- a run behind a run
+pub sets-append : (l : List ℕ) (i : ℕ) (vs ws : List ℕ) → sets l i (vs ++ ws) ≡ sets (sets l i vs) (i + length vs) ws
+sets-append l i [] ws = simp add-zero
+sets-append l i (v ∷ vs) ws = sets-append (set l i v) (suc i) vs ws ∙ ap (λ (k : ℕ). sets (sets (set l i v) (suc i) vs) k ws) (omega arith)
+
+-- a run that fits is stored, and one that does not changes nothing
+module _ (xs : List ℕ) (at : ℕ) (b : List ℕ) where
+  pub fits-yes : at + length b ≤ length xs → fits xs at b ≡ true
+  unfolding fits
+  fits-yes h = le-leb _ _ h
+
+  pub fits-no : length xs < at + length b → fits xs at b ≡ false
+  unfolding fits
+  fits-no h = lt-leb _ _ h
+
+  pub put-yes : at + length b ≤ length xs → put xs at b ≡ sets xs at b
+  unfolding put
+  put-yes h = simp (fits-yes h)
+
+  pub put-no : length xs < at + length b → put xs at b ≡ xs
+  unfolding put
+  put-no h = simp (fits-no h)
+
+  pub length-put : length (put xs at b) ≡ length xs
+  unfolding put
+  length-put = pick-ind (λ (l : List ℕ). length l ≡ length xs) (fits xs at b) (λ e. length-sets xs at b) (λ e. refl)

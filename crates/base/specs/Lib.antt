@@ -1,0 +1,3 @@
+-- What contracts of several crates cite.
+pub mod Choice
+pub mod Bytes

@@ -1,0 +1,42 @@
+// Bytes that are lent: one read, a run of them stored. Every place and every length is allowed.
+ghost use mathlib.Core.Path.{_≡_};
+ghost use Prim.Native.Nat.{_+_, _≤_, _<_};
+ghost use lib.ListN.{length, getD};
+ghost use lib.Seq.{sets};
+ghost use Rattle.base.specs.Bytes.{fits as fitsAt, put as putAt};
+
+// The byte at i, and 0 past the end.
+pub fn byte(s: &[u8], i: usize) -> usize
+    ensures { λ r. ⌜ (r ≡ getD (now (s .entry)) i 0) × (r < 256) ⌝ }
+{
+    if i < s.len() {
+        return s[i] as usize;
+    }
+    0
+}
+
+// Copies src into dst from `at` on.
+fn copy_in(dst: &mut [u8], at: usize, src: &[u8])
+    requires { ⌜ at + length (now src) ≤ length (now dst) ⌝ }
+    ensures { λ _. ⌜ now (dst .exit) ≡ sets (now (dst .entry)) at (now (src .entry)) ⌝ }
+{
+    let mut i = 0;
+    while i < src.len() {
+        dst[at + i] = src[i];
+        i += 1;
+    }
+}
+
+// Stores src in dst from `at` on, where all of it fits; else it stores nothing. Answers whether it fitted.
+pub fn put(dst: &mut [u8], at: usize, src: &[u8]) -> bool
+    ensures { λ r. ⌜ (r ≡ fitsAt (now (dst .entry)) at (now (src .entry))) × (now (dst .exit) ≡ putAt (now (dst .entry)) at (now (src .entry))) ⌝ }
+{
+    if dst.len() < at {
+        return false;
+    }
+    if dst.len() - at < src.len() {
+        return false;
+    }
+    copy_in(dst, at, src);
+    true
+}
