@@ -4,7 +4,7 @@ use mathlib.Core.Path.{_≡_, refl, sym, ap, ap₂, _∙_}
 use mathlib.Core.List.{List, [], _∷_, _++_}
 use native.Mathlib.Omega.{arith}
 use native.Mathlib.Nat.{le-refl, zero-add, suc-add}
-use lib.ListN.{length, getD, take, drop, length-take, length-drop, length-append, List·getD-append}
+use lib.ListN.{length, getD, take, drop, length-take, length-drop, length-append, drop-of-length-le, List·getD-append}
 use lib.Seq.{getD-take, getD-drop, getD-append-add, ext-getD, drop-drop, take-all, take-nil, take-at, drop-at, length-take-le}
 use Rattle.base.specs.Bytes.{part, splice}
 
@@ -15,6 +15,13 @@ rest k l = take-all (length l - k) (drop k l) (simp length-drop (le-refl _))
 -- the part from s to s + n, as the code's `&s[s..e]` has it
 pub part-mid : (xs : List ℕ) (s n : ℕ) → part xs s (s + n - s) ≡ part xs s n
 part-mid xs s n = let e : s + n - s ≡ n = omega arith in ap (part xs s) e
+
+-- a part that starts at the end or behind it, and one that reaches the end
+pub part-past : (xs : List ℕ) (a n : ℕ) → length xs ≤ a → part xs a n ≡ []
+part-past xs a n h = rw (drop-of-length-le xs h) (take-nil n)
+
+pub part-all : (xs : List ℕ) (a n : ℕ) → length xs - a ≤ n → part xs a n ≡ drop a xs
+part-all xs a n h = take-all n (drop a xs) (simp length-drop h)
 
 pub length-part : (xs : List ℕ) (s n : ℕ) → s + n ≤ length xs → length (part xs s n) ≡ n
 length-part xs s n h = simp (length-take, length-drop) (omega arith)

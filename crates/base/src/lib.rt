@@ -3,7 +3,7 @@ ghost use mathlib.Core.Path.{_≡_};
 ghost use Prim.Native.Nat.{_+_, _≤_, _<_};
 ghost use lib.ListN.{length, getD};
 ghost use lib.Seq.{sets};
-ghost use Rattle.base.specs.Bytes.{fits as fitsAt, put as putAt};
+ghost use Rattle.base.specs.Bytes.{part as partOf, fits as fitsAt, put as putAt};
 
 // The byte at i, and 0 past the end.
 pub fn byte(s: &[u8], i: usize) -> usize
@@ -13,6 +13,21 @@ pub fn byte(s: &[u8], i: usize) -> usize
         return s[i] as usize;
     }
     0
+}
+
+// The n bytes from `a` on, as the part of s that they are, cut at its end.
+pub fn part(s: &[u8], a: usize, n: usize) -> &[u8]
+    ensures { λ r. ⌜ now r ≡ partOf (now (s .entry)) a n ⌝ }
+{
+    let l = s.len();
+    if l <= a {
+        return &s[l..];
+    }
+    if l - a < n {
+        return &s[a..];
+    }
+    let e = a + n;
+    &s[a..e]
 }
 
 // Copies src into dst from `at` on.
