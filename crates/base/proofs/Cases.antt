@@ -2,7 +2,10 @@
 use mathlib.Core.Path.{_≡_, refl, sym, _∙_}
 use mathlib.Core.Bool.{Bool, true, false, not, _&&_, false≢true}
 use mathlib.Core.List.{List, [], _∷_}
-use borrow.Author.Tests.{not-true, not-false}
+use Prim.Native.Nat.{ℕ, _≤_, _<_}
+use native.Mathlib.Omega.{arith}
+use lib.Dec.{leb}
+use borrow.Author.Tests.{not-true, not-false, le-leb, lt-leb, leb-true, leb-false}
 use Rattle.base.specs.Choice.{pick, every}
 
 pub false-true : {A : Type 0} → false ≡ true → A
@@ -23,6 +26,13 @@ flag-no {r} e h = sym e ∙ not-true r h
 
 pub flag-yes : {r t : Bool} → r ≡ t → not r ≡ false → t ≡ true
 flag-yes {r} e h = sym e ∙ not-false r h
+
+-- two tests of an order that say the same
+pub leb-same : (a b c d : ℕ) → (a ≤ b → c ≤ d) → (c ≤ d → a ≤ b) → leb a b ≡ leb c d
+leb-same a b c d f g =
+    by-cases (leb a b)
+    (λ e. e ∙ sym (le-leb c d (f (leb-true a b e))))
+    (λ e. e ∙ sym (by-cases (leb c d) (λ h. let p = g (leb-true c d h) in let q = leb-false a b e in absurd (omega arith)) (λ h. h)))
 
 -- ---- tests that must all hold
 

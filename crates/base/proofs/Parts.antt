@@ -3,7 +3,7 @@ use Prim.Native.Nat.{ℕ, zero, suc, _+_, _-_, _≤_, _<_}
 use mathlib.Core.Path.{_≡_, refl, sym, ap, ap₂, _∙_}
 use mathlib.Core.List.{List, [], _∷_, _++_}
 use native.Mathlib.Omega.{arith}
-use native.Mathlib.Nat.{le-refl, zero-add, suc-add}
+use native.Mathlib.Nat.{le-refl, sub-zero, zero-sub, suc-sub-suc}
 use lib.ListN.{length, getD, take, drop, length-take, length-drop, length-append, drop-of-length-le, List·getD-append}
 use lib.Seq.{getD-take, getD-drop, getD-append-add, ext-getD, drop-drop, take-all, take-nil, take-at, drop-at, length-take-le}
 use Rattle.base.specs.Bytes.{part, splice}
@@ -30,13 +30,16 @@ pub getD-part : (xs : List ℕ) (a n i : ℕ) → i < n → getD (part xs a n) i
 getD-part xs a n i h = getD-take n (drop a xs) i 0 h ∙ getD-drop a xs i 0
 
 -- the end of a part
-pub drop-take : (l : List ℕ) (k n : ℕ) → drop k (take (k + n) l) ≡ take n (drop k l)
-drop-take l zero n = simp zero-add
-drop-take [] (suc k) n = rw suc-add (sym (take-nil n))
-drop-take (x ∷ l) (suc k) n = rw suc-add (drop-take l k n)
+pub drop-take : (l : List ℕ) (k n : ℕ) → drop k (take n l) ≡ take (n - k) (drop k l)
+drop-take l zero n = simp sub-zero
+drop-take l (suc k) zero = simp zero-sub
+drop-take [] (suc k) (suc n) = sym (take-nil (suc n - suc k))
+drop-take (x ∷ l) (suc k) (suc n) = rw suc-sub-suc (drop-take l k n)
 
 pub drop-part : (xs : List ℕ) (a k n : ℕ) → drop k (part xs a (k + n)) ≡ part xs (a + k) n
-drop-part xs a k n = drop-take (drop a xs) k n ∙ ap (take n) (drop-drop k a xs)
+drop-part xs a k n =
+    let e : k + n - k ≡ n = omega arith in
+    drop-take (drop a xs) k (k + n) ∙ ap₂ take e (drop-drop k a xs)
 
 -- ---- lists that agree in a stretch, from a up to e
 

@@ -5,9 +5,9 @@ use mathlib.Core.Bool.{true, false}
 use mathlib.Core.List.{List, [], _∷_, _++_, append-assoc}
 use native.Mathlib.Omega.{arith}
 use native.Mathlib.Numerals.{add-one}
-use native.Mathlib.Nat.{add-zero}
+use native.Mathlib.Nat.{add-zero, add-suc}
 use lib.ListN.{length, getD, take, drop, set}
-use lib.Seq.{sets, getD-set-other, take-suc, length-sets, sets-eq, drop-at, take-at, length-take-le, take-all}
+use lib.Seq.{sets, getD-set-other, drop-set-lt, drop-set-add, take-suc, length-sets, sets-eq, drop-at, take-at, length-take-le, take-all}
 use borrow.Author.Tests.{le-leb, lt-leb}
 use Rattle.base.specs.Bytes.{part, fits, put}
 use Rattle.base.proofs.Cases.{pick-ind}
@@ -45,6 +45,18 @@ part-sets l i vs h =
     ap (λ (r : List ℕ). take (length vs) (drop i r)) (sets-eq vs l i h ∙ append-assoc (take i l) vs (drop (i + length vs) l))
     ∙ ap (take (length vs)) (drop-at (take i l) (vs ++ drop (i + length vs) l) i (length-take-le i l (omega arith)))
     ∙ take-at vs (drop (i + length vs) l) (length vs) refl
+
+-- what follows a run, and a run that starts behind the first n
+pub drop-sets-past : (n : ℕ) (l : List ℕ) (i : ℕ) (vs : List ℕ) → i + length vs ≤ n → drop n (sets l i vs) ≡ drop n l
+drop-sets-past n l i [] h = refl
+drop-sets-past n l i (v ∷ vs) h = drop-sets-past n (set l i v) (suc i) vs (omega arith) ∙ drop-set-lt n l i v (omega arith)
+
+pub drop-sets-add : (n : ℕ) (l : List ℕ) (i : ℕ) (vs : List ℕ) → drop n (sets l (n + i) vs) ≡ sets (drop n l) i vs
+drop-sets-add n l i [] = refl
+drop-sets-add n l i (v ∷ vs) =
+    ap (λ (k : ℕ). drop n (sets (set l (n + i) v) k vs)) (sym (add-suc n i))
+    ∙ drop-sets-add n (set l (n + i) v) (suc i) vs
+    ∙ ap (λ (m : List ℕ). sets m (suc i) vs) (drop-set-add n l i v)
 
 -- a run behind a run
 pub sets-append : (l : List ℕ) (i : ℕ) (vs ws : List ℕ) → sets l i (vs ++ ws) ≡ sets (sets l i vs) (i + length vs) ws

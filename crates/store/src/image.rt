@@ -1,0 +1,171 @@
+// The image: where the body of a kind stands, which applications are present, and whether the whole is well formed.
+use crate::biometrics;
+use crate::body;
+use crate::little::read16;
+use crate::little::read32;
+use crate::rules::BIOMETRICS;
+use crate::rules::TRAVEL;
+use crate::rules::VISA;
+use crate::rules::kind_ok;
+ghost use mathlib.Core.Path.{_≡_};
+ghost use Prim.Native.Nat.{_+_, _≤_, _<_};
+ghost use lib.ListN.{length};
+ghost use Rattle.store.specs.Body.{takes};
+ghost use Rattle.store.specs.Biometrics.{bioOk, takes as takesAt};
+ghost use Rattle.store.specs.Image.{find, has, body, present, applicationOf, sectionOk, wellFormed, appendTo, updateIn, activateIn};
+
+// Where a section's body begins, and its length.
+pub enum Found {
+    At(usize, usize),
+    Missing,
+}
+
+// The first section of a kind.
+pub fn find(image: &[u8], kind: usize) -> Found
+    ensures { λ r. ⌜ r ≡ find (now (image .entry)) kind ⌝ }
+{
+    let mut at = 0;
+    while 6 <= image.len() - at {
+        let len = read32(image, at);
+        if image.len() - at - 6 < len {
+            return Found::Missing;
+        }
+        if read16(image, at + 4) == kind {
+            return Found::At(at + 6, len);
+        }
+        at = at + 6 + len;
+    }
+    Found::Missing
+}
+
+// Whether a section of a kind is there.
+pub fn has(image: &[u8], kind: usize) -> bool
+    ensures { λ r. ⌜ r ≡ has (now (image .entry)) kind ⌝ }
+{
+    match find(image, kind) {
+        Found::At(_, _) => true,
+        Found::Missing => false,
+    }
+}
+
+// The body of the file of a kind, as the part of the image that it is; an empty part where there is none.
+pub fn body(image: &[u8], kind: usize) -> &[u8]
+    ensures { λ r. ⌜ now r ≡ body (now (image .entry)) kind ⌝ }
+{
+    match find(image, kind) {
+        Found::At(start, len) => base::part(image, start, len),
+        Found::Missing => base::part(image, 0, 0),
+    }
+}
+
+// Whether an application is present, which it is when its sections are.
+pub fn present(image: &[u8], application: usize) -> bool
+    ensures { λ r. ⌜ r ≡ present (now (image .entry)) application ⌝ }
+{
+    if application == TRAVEL {
+        if !has(image, 0x0101) {
+            return false;
+        }
+        if !has(image, 0x0102) {
+            return false;
+        }
+        return has(image, 0x011A);
+    }
+    if application == VISA {
+        if !has(image, 0x0203) {
+            return false;
+        }
+        return has(image, 0x021A);
+    }
+    if application == BIOMETRICS {
+        return has(image, 0x031A);
+    }
+    false
+}
+
+// The application whose section a kind is.
+fn application_of(kind: usize) -> usize
+    ensures { λ r. ⌜ r ≡ applicationOf kind ⌝ }
+{
+    if kind < 0x0200 {
+        return TRAVEL;
+    }
+    if kind < 0x0300 {
+        return VISA;
+    }
+    BIOMETRICS
+}
+
+// Whether the section at `at` is right, behind one of kind `last`.
+fn section_ok(image: &[u8], at: usize, last: usize) -> bool
+    requires { ⌜ at ≤ length (now image) ⌝ }
+    ensures { λ r. ⌜ r ≡ sectionOk (now (image .entry)) at last ⌝ }
+{
+    if image.len() - at < 6 {
+        return false;
+    }
+    let len = read32(image, at);
+    if image.len() - at - 6 < len {
+        return false;
+    }
+    let kind = read16(image, at + 4);
+    if kind <= last {
+        return false;
+    }
+    if !kind_ok(kind, base::part(image, at + 6, len)) {
+        return false;
+    }
+    present(image, application_of(kind))
+}
+
+// Whether an image is as document 01 says.
+pub fn well_formed(image: &[u8]) -> bool
+    ensures { λ r. ⌜ r ≡ wellFormed (now (image .entry)) ⌝ }
+{
+    if 262144 < image.len() {
+        return false;
+    }
+    let mut at = 0;
+    let mut last = 0;
+    while at < image.len() {
+        if !section_ok(image, at, last) {
+            return false;
+        }
+        last = read16(image, at + 4);
+        at = at + 6 + read32(image, at);
+    }
+    true
+}
+
+// Appends a record to the file of a kind, where it is there and can take it; else it changes nothing. Answers whether it could.
+pub fn append(image: &mut [u8], kind: usize, data: &[u8]) -> bool
+    ensures { λ r. ⌜ (r ≡ takes (body (now (image .entry)) kind) (length (now («data» .entry)))) × (now (image .exit) ≡ appendTo (now (image .entry)) kind (now («data» .entry))) ⌝ }
+{
+    let Found::At(start, len) = find(image, kind) else {
+        return false;
+    };
+    let end = start + len;
+    body::append(&mut image[start..end], data)
+}
+
+// Writes data from `offset` of the room of the file of a kind on, likewise.
+pub fn update(image: &mut [u8], kind: usize, offset: usize, data: &[u8]) -> bool
+    ensures { λ r. ⌜ (r ≡ takesAt (body (now (image .entry)) kind) offset (length (now («data» .entry)))) × (now (image .exit) ≡ updateIn (now (image .entry)) kind offset (now («data» .entry))) ⌝ }
+{
+    let Found::At(start, len) = find(image, kind) else {
+        return false;
+    };
+    let end = start + len;
+    biometrics::update(&mut image[start..end], offset, data)
+}
+
+// Activates the file of a kind, likewise.
+pub fn activate(image: &mut [u8], kind: usize) -> bool
+    ensures { λ r. ⌜ (r ≡ bioOk (body (now (image .entry)) kind)) × (now (image .exit) ≡ activateIn (now (image .entry)) kind) ⌝ }
+{
+    let Found::At(start, len) = find(image, kind) else {
+        return false;
+    };
+    let end = start + len;
+    biometrics::activate(&mut image[start..end])
+}
