@@ -1,24 +1,24 @@
 -- What an append leaves: the old records with the new one behind them, in a body that is still well formed.
-use Prim.Native.Nat.{ℕ, zero, suc, _+_, _-_, _*_, _/_, _%_, _≤_, _<_}
+use Prim.Native.Nat.{ℕ, zero, suc, _+_, _-_, _/_, _%_, _≤_, _<_}
 use mathlib.Core.Path.{_≡_, refl, sym, ap, ap₂, _∙_}
 use mathlib.Core.Bool.{Bool, true, false, _&&_, and-false}
 use mathlib.Core.List.{List, [], _∷_, _++_}
 use native.Mathlib.Omega.{arith}
 use native.Mathlib.Numerals.{add-one}
 use native.Mathlib.Nat.{add-zero}
-use lib.ListN.{length, getD, take, drop, set, length-set, length-append}
+use lib.ListN.{length, take, drop, set, length-set, length-append}
 use lib.Seq.{sets, length-sets, getD-set-other, drop-set-lt}
-use lib.Dec.{leb, ltb}
+use lib.Dec.{leb}
 use borrow.Author.Tests.{le-leb, lt-leb, leb-true, lt-ltb, le-ltb, ltb-true}
-use Rattle.base.specs.Choice.{pick, every}
+use Rattle.base.specs.Choice.{every}
 use Rattle.base.specs.Bytes.{part, put}
-use Rattle.base.proofs.Cases.{by-cases, pick-ind, held, all-held}
+use Rattle.base.proofs.Cases.{pick-ind, held, all-held}
 use Rattle.base.proofs.Parts.{Agree, part-agree, drop-part}
 use Rattle.base.proofs.Runs.{getD-sets-before, part-sets, sets-append, put-yes, length-put}
 use Rattle.store.specs.Little.{le16, bytes16}
 use Rattle.store.specs.Body.{count, next, place, recordAt, firsts, records, used, fits, okAt, okTo, bodyOk, takes, written, appended, append}
 use Rattle.store.proofs.Numbers.{le16-agree, le16-part, le16-bytes, le16-set, length-bytes16}
-use Rattle.store.proofs.Bodies.{place-zero, place-suc, place-le, place-lt, place-low, okAt-true, okTo-suc, bodyOk-true, bodyOk-facts}
+use Rattle.store.proofs.Bodies.{place-suc, place-lt, place-low, okAt-true, okTo-suc, bodyOk-true, bodyOk-facts}
 
 -- ---- whether a body can take a record
 

@@ -1,7 +1,7 @@
 -- Laws of record bodies: where records stand, and what a well-formed body has.
-use Prim.Native.Nat.{ℕ, zero, suc, _+_, _-_, _*_, _≤_, _<_}
+use Prim.Native.Nat.{ℕ, zero, suc, _+_, _-_, _≤_, _<_}
 use mathlib.Core.Path.{_≡_, refl, sym, ap, _∙_, subst}
-use mathlib.Core.Bool.{Bool, true, false, _&&_, and-true, and-false}
+use mathlib.Core.Bool.{true, false, and-true, and-false}
 use mathlib.Core.List.{List, [], _∷_, _++_}
 use native.Mathlib.Omega.{arith}
 use native.Mathlib.Numerals.{add-one}
@@ -12,9 +12,9 @@ use lib.Dec.{leb}
 use borrow.Author.Tests.{lt-leb, le-leb, leb-true}
 use Rattle.base.specs.Choice.{every}
 use Rattle.base.specs.Bytes.{part}
-use Rattle.base.proofs.Cases.{by-cases, and-left, and-right, held, all-held}
+use Rattle.base.proofs.Cases.{by-cases, held, all-held}
 use Rattle.store.specs.Little.{le16}
-use Rattle.store.specs.Body.{count, next, place, recordAt, firsts, records, nth, used, okAt, okTo, bodyOk}
+use Rattle.store.specs.Body.{count, next, place, recordAt, firsts, records, nth, okAt, okTo, bodyOk}
 
 -- ---- a record at a place
 

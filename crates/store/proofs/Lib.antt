@@ -6,5 +6,6 @@ pub mod Updating
 pub mod Table
 pub mod ByKind
 pub mod Sections
+pub mod Presence
 pub mod Splicing
 pub mod Files

@@ -1,10 +1,10 @@
 -- Laws of little-endian numbers.
 use Prim.Native.Nat.{ℕ, _+_, _*_, _/_, _%_, _≤_, _<_}
 use mathlib.Core.Path.{_≡_, refl, sym, ap, ap₂, _∙_}
-use mathlib.Core.List.{List, [], _∷_, _++_}
+use mathlib.Core.List.{List, _++_}
 use native.Mathlib.Omega.{arith}
 use native.Mathlib.Nat.{add-zero, div-div-eq-div-mul}
-use lib.ListN.{length, getD, set, length-set, List·getD-eq-default, List·getD-append}
+use lib.ListN.{length, getD, set, length-set, List·getD-eq-default}
 use lib.Seq.{sets, getD-set-same, getD-set-other}
 use Rattle.base.specs.Bytes.{part}
 use Rattle.base.proofs.Parts.{Agree, getD-part}

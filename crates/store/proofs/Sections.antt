@@ -1,18 +1,17 @@
 -- Laws of a walk over the sections of an image: what is left to pass answers for the whole.
 use Prim.Native.Nat.{ℕ, zero, suc, _+_, _≤_, _<_}
 use mathlib.Core.Path.{_≡_, refl, sym, ap, ap₂, _∙_}
-use mathlib.Core.Bool.{Bool, true, false, _&&_, _||_, and-true, and-false}
+use mathlib.Core.Bool.{Bool, true, false, _&&_, and-true, and-false}
 use mathlib.Core.List.{List}
 use native.Mathlib.Omega.{arith}
 use lib.ListN.{length}
-use lib.Dec.{leb, ltb, eqb}
+use lib.Dec.{eqb}
 use borrow.Author.Tests.{lt-leb, le-leb, leb-true, ltb-true, lt-ltb, le-ltb, eq-eqb, ne-eqb}
 use Rattle.base.specs.Choice.{every}
 use Rattle.base.specs.Bytes.{part}
 use Rattle.base.proofs.Cases.{held}
 use Rattle.store.specs.Rules.{kindOk}
 use Rattle.store.specs.Image.{lenAt, kindAt, bodyAt, endAt, choose, findFrom, find, present, applicationOf, sectionOk, sectionsOk, wellFormed}
-use Rattle.store.specs.declared.image.Found.{Found}
 use Rattle.store.specs.declared.image.Found.the-variants.{At, Missing}
 
 -- ---- looking for a kind

@@ -1,24 +1,22 @@
 -- A new body of the same length in a section's place: what is found stays found, other bodies stay, and the image stays well formed.
 use Prim.Native.Nat.{ℕ, zero, suc, _+_, _≤_, _<_}
-use mathlib.Core.Path.{_≡_, refl, sym, ap, ap₂, _∙_}
-use mathlib.Core.Bool.{Bool, true, false, _&&_, _||_}
+use mathlib.Core.Path.{_≡_, refl, sym, ap, _∙_}
+use mathlib.Core.Bool.{Bool, true, false, _&&_}
 use mathlib.Core.List.{List, [], _∷_}
 use mathlib.Core.Logic.{_⊎_, inl, inr, ⊎-elim}
 use native.Mathlib.Omega.{arith}
 use lib.ListN.{length}
-use lib.Dec.{leb, ltb, eqb}
+use lib.Dec.{leb, eqb}
 use borrow.Author.Tests.{lt-leb, leb-true, eqb-true, eqb-false}
-use Rattle.base.specs.Choice.{every}
 use Rattle.base.specs.Bytes.{part, splice}
 use Rattle.base.proofs.Cases.{and-left, and-right, held}
 use Rattle.base.proofs.Parts.{Agree, part-agree, splice-length, splice-before, splice-after, splice-part}
-use Rattle.store.specs.Little.{le16, le32}
-use Rattle.store.specs.Rules.{kindOk}
-use Rattle.store.specs.Image.{lenAt, kindAt, bodyAt, endAt, choose, findFrom, find, isAt, has, present, applicationOf, sectionOk, sectionsOk, wellFormed}
-use Rattle.store.specs.declared.image.Found.{Found}
+use Rattle.store.specs.Rules.{rules, allRules, kindOk}
+use Rattle.store.specs.Image.{lenAt, kindAt, bodyAt, endAt, choose, findFrom, find, isAt, has, there, present, applicationOf, sectionOk, sectionsOk, wellFormed}
+use Rattle.store.specs.declared.rules.Rule.{Rule}
 use Rattle.store.specs.declared.image.Found.the-variants.{At, Missing}
 use Rattle.store.proofs.Numbers.{le16-agree, le32-agree}
-use Rattle.store.proofs.Sections.{SectionOk, section-facts}
+use Rattle.store.proofs.Sections.{section-facts}
 
 -- ---- what a find says
 
@@ -129,9 +127,14 @@ module _ (img new : List ℕ) (s n : ℕ) (same : length new ≡ length img) (be
     unfolding has
     has-kept j = ap isAt (find-kept j)
 
+    there-kept : (a : ℕ) (rs : List Rule) → allRules (there new a) rs ≡ allRules (there img a) rs
+    unfolding allRules there
+    there-kept a [] = refl
+    there-kept a (r ∷ rs) = rw (has-kept (r .kind), there-kept a rs)
+
     present-kept : (a : ℕ) → present new a ≡ present img a
     unfolding present
-    present-kept a = simp has-kept
+    present-kept a = rw (there-kept a rules)
 
     -- the body of every other kind stays
     pub other-kept : (j t m : ℕ) → (j ≡ k → ⊥) → find img j ≡ At t m → part new t m ≡ part img t m

@@ -1,18 +1,18 @@
 -- Laws of biometrics bodies: what a write and an activation leave.
-use Prim.Native.Nat.{ℕ, zero, suc, _+_, _-_, _/_, _%_, _≤_, _<_, max}
+use Prim.Native.Nat.{ℕ, _+_, _-_, _/_, _%_, _≤_, _<_, max}
 use mathlib.Core.Path.{_≡_, refl, sym, ap, ap₂, _∙_}
-use mathlib.Core.Bool.{Bool, true, false, and-true, and-false}
+use mathlib.Core.Bool.{true, false, and-true, and-false}
 use mathlib.Core.List.{List, [], _∷_, _++_, append-assoc}
 use native.Mathlib.Omega.{arith}
-use lib.ListN.{length, getD, take, drop, set, length-set, length-drop, length-append}
+use lib.ListN.{length, take, drop, set, length-set, length-drop, length-append}
 use lib.Seq.{sets, length-sets, sets-eq, getD-set-same, getD-set-other, drop-set-lt, take-append-add, take-take, length-take-le}
 use lib.Dec.{leb}
 use borrow.Author.Tests.{le-leb, lt-leb, leb-true}
-use Rattle.base.specs.Choice.{pick, every}
-use Rattle.base.specs.Bytes.{part, splice, put}
+use Rattle.base.specs.Choice.{every}
+use Rattle.base.specs.Bytes.{splice, put}
 use Rattle.base.proofs.Cases.{pick-ind, held, all-held}
 use Rattle.base.proofs.Parts.{Agree, drop-take}
-use Rattle.base.proofs.Runs.{getD-sets-before, drop-sets-past, drop-sets-add, put-yes, length-put}
+use Rattle.base.proofs.Runs.{getD-sets-before, drop-sets-past, drop-sets-add, put-yes}
 use Rattle.store.specs.Little.{le32, bytes32}
 use Rattle.store.specs.Biometrics.{state, written, room, content, bioOk, takes, updated, update, activate}
 use Rattle.store.proofs.Numbers.{le32-agree, le32-stored, length-bytes32}

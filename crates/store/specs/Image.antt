@@ -1,7 +1,7 @@
 -- "At most 262,144 bytes: sections up to the exact end, perhaps none. A section is a 4-byte little-endian body length L, a 2-byte
 -- little-endian kind, then L bytes. Kinds strictly increase."
-use Prim.Native.Nat.{ℕ, zero, suc, _+_, _/_}
-use mathlib.Core.Bool.{Bool, true, false, _&&_, _||_}
+use Prim.Native.Nat.{ℕ, zero, suc, _+_}
+use mathlib.Core.Bool.{Bool, true, false, not, _&&_, _||_}
 use mathlib.Core.List.{List, [], _∷_}
 use lib.ListN.{length}
 use lib.Dec.{leb, ltb, eqb}
@@ -10,7 +10,8 @@ use Rattle.base.specs.Bytes.{part, splice}
 use Rattle.store.specs.Little.{le16, le32}
 use Rattle.store.specs.Body.{records, append}
 use Rattle.store.specs.Biometrics.{update, activate}
-use Rattle.store.specs.Rules.{travel, visa, biometrics, kindOk}
+use Rattle.store.specs.Rules.{travel, visa, biometrics, rules, allRules, kindOk}
+use Rattle.store.specs.declared.rules.Rule.{Rule}
 use Rattle.store.specs.declared.image.Found.{Found}
 use Rattle.store.specs.declared.image.Found.the-variants.{At, Missing}
 
@@ -53,12 +54,13 @@ isAt Missing = false
 unfoldable pub has : List ℕ → ℕ → Bool
 has img k = isAt (find img k)
 
--- "An application is present when its sections are": travel's are 0101, 0102 and 011A, visa's 0203 and 021A, biometrics' 031A
+-- the record file of a rule is there, where the rule is one of application a
+unfoldable pub there : List ℕ → ℕ → Rule → Bool
+there img a r = not (eqb (r .application) a) || has img (r .kind)
+
+-- "An application is present when its sections are", which are those that the rule table gives it
 unfoldable pub present : List ℕ → ℕ → Bool
-present img a =
-    pick (eqb a travel) (every (has img 0x0101 ∷ has img 0x0102 ∷ has img 0x011A ∷ []))
-    (pick (eqb a visa) (every (has img 0x0203 ∷ has img 0x021A ∷ []))
-    (eqb a biometrics && has img 0x031A))
+present img a = every (leb travel a ∷ leb a biometrics ∷ allRules (there img a) rules ∷ [])
 
 -- ---- whether an image is as document 01 says
 

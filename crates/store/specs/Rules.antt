@@ -1,7 +1,8 @@
 -- The rule table of the six record files, and what a section's body must be by its kind.
 use Prim.Native.Nat.{ℕ}
-use mathlib.Core.Bool.{Bool, _&&_}
+use mathlib.Core.Bool.{Bool, true, _&&_}
 use mathlib.Core.List.{List, [], _∷_}
+use lib.ListN.{drop}
 use lib.Dec.{leb, eqb}
 use Rattle.base.specs.Choice.{pick, every}
 use Rattle.store.specs.Body.{bodyOk}
@@ -36,6 +37,14 @@ rules =
     ∷ rule 0x031A biometrics 0x011A 0x1A 929 64
     ∷ []
 
+abbrev pub firstRow : List Rule → Ruled
+firstRow [] = Nothing
+firstRow (r ∷ rs) = Is r
+
+-- row i of the table, counted from 0
+unfoldable pub rowOf : ℕ → Ruled
+rowOf i = firstRow (drop i rules)
+
 -- what a rule is looked up by: a kind; an application with an id, or with a short id
 abbrev pub hasKey : Key → Rule → Bool
 hasKey (Kind k) r = eqb (r .kind) k
@@ -49,6 +58,11 @@ firstOf key (r ∷ rs) = pick (hasKey key r) (Is r) (firstOf key rs)
 
 unfoldable pub ruleOf : Key → Ruled
 ruleOf key = firstOf key rules
+
+-- each rule of a table passes a test
+unfoldable pub allRules : (Rule → Bool) → List Rule → Bool
+allRules p [] = true
+allRules p (r ∷ rs) = p r && allRules p rs
 
 -- "0401 to 0440": Biometrics 1 to 64
 unfoldable pub isBiometrics : ℕ → Bool

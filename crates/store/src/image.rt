@@ -4,15 +4,18 @@ use crate::body;
 use crate::little::read16;
 use crate::little::read32;
 use crate::rules::BIOMETRICS;
+use crate::rules::Rule;
+use crate::rules::Ruled;
 use crate::rules::TRAVEL;
 use crate::rules::VISA;
 use crate::rules::kind_ok;
+use crate::rules::row;
 ghost use mathlib.Core.Path.{_≡_};
 ghost use Prim.Native.Nat.{_+_, _≤_, _<_};
 ghost use lib.ListN.{length};
 ghost use Rattle.store.specs.Body.{takes};
 ghost use Rattle.store.specs.Biometrics.{bioOk, takes as takesAt};
-ghost use Rattle.store.specs.Image.{find, has, body, present, applicationOf, sectionOk, wellFormed, appendTo, updateIn, activateIn};
+ghost use Rattle.store.specs.Image.{find, has, body, there, present, applicationOf, sectionOk, wellFormed, appendTo, updateIn, activateIn};
 
 // Where a section's body begins, and its length.
 pub enum Found {
@@ -58,29 +61,37 @@ pub fn body(image: &[u8], kind: usize) -> &[u8]
     }
 }
 
+// Whether the record file of a rule is there, where the rule is one of the application's.
+fn there(image: &[u8], application: usize, r: Rule) -> bool
+    ensures { λ t. ⌜ t ≡ there (now (image .entry)) application r ⌝ }
+{
+    if r.application != application {
+        return true;
+    }
+    has(image, r.kind)
+}
+
 // Whether an application is present, which it is when its sections are.
 pub fn present(image: &[u8], application: usize) -> bool
     ensures { λ r. ⌜ r ≡ present (now (image .entry)) application ⌝ }
 {
-    if application == TRAVEL {
-        if !has(image, 0x0101) {
+    if application < TRAVEL {
+        return false;
+    }
+    if BIOMETRICS < application {
+        return false;
+    }
+    let mut i = 0;
+    while i < 6 {
+        let Ruled::Is(r) = row(i) else {
+            return true;
+        };
+        if !there(image, application, r) {
             return false;
         }
-        if !has(image, 0x0102) {
-            return false;
-        }
-        return has(image, 0x011A);
+        i += 1;
     }
-    if application == VISA {
-        if !has(image, 0x0203) {
-            return false;
-        }
-        return has(image, 0x021A);
-    }
-    if application == BIOMETRICS {
-        return has(image, 0x031A);
-    }
-    false
+    true
 }
 
 // The application whose section a kind is.

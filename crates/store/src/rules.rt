@@ -2,10 +2,7 @@
 use crate::biometrics;
 use crate::body;
 ghost use mathlib.Core.Path.{_≡_};
-ghost use mathlib.Core.List.{_∷_};
-ghost use Prim.Native.Nat.{_+_, _<_};
-ghost use lib.ListN.{drop};
-ghost use Rattle.store.specs.Rules.{rules, hasKey, ruleOf, kindOk};
+ghost use Rattle.store.specs.Rules.{rowOf, hasKey, ruleOf, kindOk};
 
 pub const TRAVEL: usize = 1;
 
@@ -78,12 +75,14 @@ const RULES: [Rule; 6] = [
     },
 ];
 
-// Row i of the table.
-fn row(i: usize) -> Rule
-    requires { ⌜ i < 6 ⌝ }
-    ensures { λ r. ⌜ drop i rules ≡ r ∷ drop (i + 1) rules ⌝ }
+// Row i of the table, counted from 0.
+pub fn row(i: usize) -> Ruled
+    ensures { λ r. ⌜ r ≡ rowOf i ⌝ }
 {
-    RULES[i]
+    if i < 6 {
+        return Ruled::Is(RULES[i]);
+    }
+    Ruled::Nothing
 }
 
 // What a rule is looked up by: a kind; an application with an id, or with a short id.
@@ -119,7 +118,9 @@ pub fn look(key: Key) -> Ruled
 {
     let mut i = 0;
     while i < 6 {
-        let r = row(i);
+        let Ruled::Is(r) = row(i) else {
+            return Ruled::Nothing;
+        };
         if has_key(key, r) {
             return Ruled::Is(r);
         }

@@ -1,3 +1,4 @@
+-- `base::byte` meets its contract.
 use borrow.Author.Needs.{needs}
 use mathlib.Core.Path.{refl, sym}
 use native.Mathlib.Omega.{arith}
@@ -5,22 +6,16 @@ use denote.Ref.{now}
 use lib.ListN.{List·getD-eq-default}
 use Rattle.base.proofs.byte.Statement.{statement}
 use Rattle.base.proofs.byte.Tie as tie
-use Rattle.base.proofs.byte.Reads as reads
-use Rattle.base.proofs.byte.Lts as lts
 
--- src/lib.rt:14:16
 shared-slice-read-result : tie.Need-shared-slice-read-result
 shared-slice-read-result c = search needs
 
--- src/lib.rt:14:16
 cast-result : tie.Need-cast-result
 cast-result c = omega (arith, c .shared-slice-known .given (c .before .before .args .i))
 
--- src/lib.rt:14:9
 returns : tie.Need-returns
 returns c = (refl, c .shared-slice-known .given (c .before .before .args .i) .fits)
 
--- src/lib.rt:10:1
 returns-2 : tie.Need-returns-2
 returns-2 c = (sym (List·getD-eq-default (now (c .before .args .s)) 0 (c .if1 .left)), omega arith)
 

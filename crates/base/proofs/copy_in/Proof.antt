@@ -1,15 +1,12 @@
-use mathlib.Core.Path.{_≡_, refl, sym, ap, _∙_, subst}
-use Prim.Native.Nat.{ℕ, _+_, _-_, _<_, _≤_}
+-- `base::copy_in` meets its contract.
+use mathlib.Core.Path.{_≡_, refl}
+use Prim.Native.Nat.{_-_, _≤_}
 use native.Mathlib.Omega.{arith}
-use mathlib.Core.List.{List}
-use lib.ListN.{length, take, set, getD, length-set}
-use lib.Seq.{sets, length-sets, take-length}
-use denote.Ref.{now}
+use lib.ListN.{length, take, length-set}
+use lib.Seq.{sets}
 use Rattle.base.proofs.Runs.{sets-turn, sets-done}
 use Rattle.base.proofs.copy_in.Statement.{statement}
 use Rattle.base.proofs.copy_in.Tie as tie
-use Rattle.base.proofs.copy_in.Reads as reads
-use Rattle.base.proofs.copy_in.Lts as lts
 
 abbrev Inv-loop : tie.InvT-loop
 Inv-loop dst₀ at src i₀ dst i = (dst ≡ sets dst₀ at (take i src)) × (i ≤ length src) × (length dst ≡ length dst₀)
@@ -17,39 +14,30 @@ Inv-loop dst₀ at src i₀ dst i = (dst ≡ sets dst₀ at (take i src)) × (i 
 abbrev μ-loop : tie.MeasureT-loop
 μ-loop dst₀ at src i₀ dst i = length src - i
 
--- src/lib.rt:88:5
 loop-holds : tie.Need-loop-holds Inv-loop μ-loop
 loop-holds c = (refl, omega arith, refl)
 
--- src/lib.rt:89:23
 shared-slice-read-dst : tie.Need-shared-slice-read-dst Inv-loop μ-loop
 shared-slice-read-dst c = omega arith
 
--- src/lib.rt:89:13
 add-dst : tie.Need-add-dst Inv-loop μ-loop
 add-dst c = omega arith
 
--- src/lib.rt:89:9
 slice-write-dst : tie.Need-slice-write-dst Inv-loop μ-loop
 slice-write-dst c = omega arith
 
--- src/lib.rt:90:9
 add-i : tie.Need-add-i Inv-loop μ-loop
 add-i c = omega arith
 
--- src/lib.rt:88:5
 loop-less : tie.Need-loop-less Inv-loop μ-loop
 loop-less c = omega arith
 
--- src/lib.rt:88:5
 loop-again : tie.Need-loop-again Inv-loop μ-loop
 loop-again c = (sets-turn _ _ _ _ _ (c .before .before .loop .inv .0) (c .before .loop-test .taken), omega arith, simp length-set (c .before .before .loop .inv .2))
 
--- src/lib.rt:83:1
 same-length : tie.Need-same-length Inv-loop μ-loop
 same-length c = c .before .loop .inv .2
 
--- src/lib.rt:83:1
 returns : tie.Need-returns Inv-loop μ-loop
 returns c = sets-done _ _ _ _ _ (c .before .loop .inv .0) (c .loop-test .left)
 

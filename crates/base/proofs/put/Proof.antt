@@ -1,34 +1,26 @@
+-- `base::put` meets its contract.
 use borrow.Author.Needs.{needs}
 use mathlib.Core.Path.{sym, _∙_}
 use native.Mathlib.Omega.{arith}
 use Rattle.base.proofs.Runs.{fits-yes, fits-no, put-yes, put-no}
 use Rattle.base.proofs.put.Statement.{statement}
 use Rattle.base.proofs.put.Tie as tie
-use Rattle.base.proofs.put.Reads as reads
-use Rattle.base.proofs.put.Lts as lts
-use Rattle.base.proofs.copy_in.Reads as copy-in-reads
 
--- src/lib.rt:36:9
 returns : tie.Need-returns
 returns c = (sym (fits-no _ _ _ (omega arith)), sym (put-no _ _ _ (omega arith)))
 
--- src/lib.rt:38:8
 sub-if2 : tie.Need-sub-if2
 sub-if2 c = search needs
 
--- src/lib.rt:39:9
 returns-2 : tie.Need-returns-2
 returns-2 c = (sym (fits-no _ _ _ (omega arith)), sym (put-no _ _ _ (omega arith)))
 
--- src/lib.rt:41:5
 copy-in-requires : tie.Need-copy-in-requires
 copy-in-requires c κs = search needs
 
--- src/lib.rt:32:1
 same-length : tie.Need-same-length
 same-length c = search needs
 
--- src/lib.rt:32:1
 returns-3 : tie.Need-returns-3
 returns-3 c = (sym (fits-yes _ _ _ (omega arith)), c .before .before .copy-in .ensures ∙ sym (put-yes _ _ _ (omega arith)))
 

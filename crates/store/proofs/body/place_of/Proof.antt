@@ -1,3 +1,4 @@
+-- `store::body::place_of` meets its contract.
 use borrow.Author.Needs.{needs}
 use Prim.Native.Nat.{_+_, _-_, _*_, _≤_}
 use mathlib.Core.Path.{_≡_, sym, ap, _∙_}
@@ -6,9 +7,6 @@ use Rattle.store.specs.Body.{place}
 use Rattle.store.proofs.Bodies.{place-zero, place-turn}
 use Rattle.store.proofs.body.place_of.Statement.{statement}
 use Rattle.store.proofs.body.place_of.Tie as tie
-use Rattle.store.proofs.body.place_of.Reads as reads
-use Rattle.store.proofs.body.place_of.Lts as lts
-use Rattle.store.proofs.little.read16.Reads as read16-reads
 
 abbrev Inv-loop : tie.InvT-loop
 Inv-loop body n at₀ i₀ at i = (at ≡ place body i) × (i ≤ n) × (at ≤ 2 + 65537 * i)
@@ -16,35 +14,27 @@ Inv-loop body n at₀ i₀ at i = (at ≡ place body i) × (i ≤ n) × (at ≤ 
 abbrev μ-loop : tie.MeasureT-loop
 μ-loop body n at₀ i₀ at i = n - i
 
--- src/body.rt:24:5
 loop-holds : tie.Need-loop-holds Inv-loop μ-loop
 loop-holds c = (sym (place-zero _), omega arith, omega arith)
 
--- src/body.rt:25:14
 add-at : tie.Need-add-at Inv-loop μ-loop
 add-at c = omega arith
 
--- src/body.rt:25:23
 read16-requires : tie.Need-read16-requires Inv-loop μ-loop
 read16-requires c κs = search needs
 
--- src/body.rt:25:14
 add-at-2 : tie.Need-add-at-2 Inv-loop μ-loop
 add-at-2 c = omega arith
 
--- src/body.rt:26:9
 add-i : tie.Need-add-i Inv-loop μ-loop
 add-i c = omega arith
 
--- src/body.rt:24:5
 loop-less : tie.Need-loop-less Inv-loop μ-loop
 loop-less c = omega arith
 
--- src/body.rt:24:5
 loop-again : tie.Need-loop-again Inv-loop μ-loop
 loop-again c = (place-turn _ _ _ _ (c .before .before .loop .inv .0) (c .read16 .ensures .0), omega arith, omega arith)
 
--- src/body.rt:18:1
 returns : tie.Need-returns Inv-loop μ-loop
 returns c = (c .before .loop .inv .0 ∙ ap (place _) (omega arith), omega arith)
 

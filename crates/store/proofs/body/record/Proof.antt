@@ -1,61 +1,42 @@
-use Prim.Native.Nat.{_<_}
+-- `store::body::record` meets its contract.
 use mathlib.Core.Path.{sym, _∙_}
-use mathlib.Core.List.{[]}
 use native.Mathlib.Omega.{arith}
 use denote.Ref.{now}
-use Rattle.store.specs.Body.{records}
-use Rattle.store.proofs.Bodies.{nth-zero, nth-past, nth-at, records-length}
 use borrow.Author.Needs.{needs}
+use Rattle.store.proofs.Bodies.{nth-zero, nth-past, nth-at, records-length}
 use Rattle.store.proofs.body.record.Statement.{statement}
 use Rattle.store.proofs.body.record.Tie as tie
-use Rattle.store.proofs.body.record.Reads as reads
-use Rattle.store.proofs.body.record.Lts as lts
-use Rattle.base.proofs.part.Reads as part-reads
-use Rattle.store.proofs.body.count.Reads as count-reads
-use Rattle.store.proofs.body.place_of.Reads as place-of-reads
-use Rattle.store.proofs.little.read16.Reads as read16-reads
 
--- src/body.rt:43:9
 part-requires : tie.Need-part-requires
 part-requires c κs = search needs
 
--- src/body.rt:43:9
 returns : tie.Need-returns
 returns c = c .part .ensures ∙ sym (nth-zero _ _ (c .before .if1 .taken))
 
--- src/body.rt:45:8
 count-requires : tie.Need-count-requires
 count-requires c κs = search needs
 
--- src/body.rt:46:9
 part-requires-2 : tie.Need-part-requires-2
 part-requires-2 c κs = search needs
 
--- src/body.rt:46:9
 returns-2 : tie.Need-returns-2
 returns-2 c = c .part2 .ensures ∙ sym (nth-past _ _ (let l = records-length (now (c .before .before .before .before .before .args .body)) in omega arith))
 
--- src/body.rt:48:29
 sub-place-of : tie.Need-sub-place-of
 sub-place-of c = search needs
 
--- src/body.rt:48:9
 place-of-requires : tie.Need-place-of-requires
 place-of-requires c κs = search needs
 
--- src/body.rt:49:22
 add-part : tie.Need-add-part
 add-part c = search needs
 
--- src/body.rt:49:30
 read16-requires : tie.Need-read16-requires
 read16-requires c κs = search needs
 
--- src/body.rt:49:5
 part-requires-3 : tie.Need-part-requires-3
 part-requires-3 c κs = search needs
 
--- src/body.rt:39:1
 returns-3 : tie.Need-returns-3
 returns-3 c = c .part3 .ensures ∙ nth-at _ _ _ _ (omega arith) (omega arith) (c .before .before .place-of .ensures .0) (c .before .read16 .ensures .0)
 

@@ -1,5 +1,6 @@
+-- `store::body::well_formed` meets its contract.
 use borrow.Author.Needs.{needs}
-use Prim.Native.Nat.{ℕ, _+_, _-_, _≤_}
+use Prim.Native.Nat.{ℕ, _-_, _≤_}
 use mathlib.Core.Path.{_≡_, sym, ap, _∙_}
 use mathlib.Core.Bool.{true}
 use mathlib.Core.List.{List}
@@ -11,11 +12,6 @@ use Rattle.store.specs.Body.{place, next, okAt, okTo}
 use Rattle.store.proofs.Bodies.{place-zero, place-turn, okTo-zero, okTo-suc, okAt-facts, bodyOk-short, bodyOk-many, bodyOk-bad, bodyOk-true}
 use Rattle.store.proofs.body.well_formed.Statement.{statement}
 use Rattle.store.proofs.body.well_formed.Tie as tie
-use Rattle.store.proofs.body.well_formed.Reads as reads
-use Rattle.store.proofs.body.well_formed.Lts as lts
-use Rattle.store.proofs.body.count.Reads as count-reads
-use Rattle.store.proofs.body.record_ok.Reads as record-ok-reads
-use Rattle.store.proofs.little.read16.Reads as read16-reads
 
 abbrev Inv-loop : tie.InvT-loop
 Inv-loop body longest most n at₀ i₀ at i = (at ≡ place body i) × (i ≤ n) × (at ≤ length body) × (okTo longest body i ≡ true)
@@ -23,27 +19,21 @@ Inv-loop body longest most n at₀ i₀ at i = (at ≡ place body i) × (i ≤ n
 abbrev μ-loop : tie.MeasureT-loop
 μ-loop body longest most n at₀ i₀ at i = n - i
 
--- src/body.rt:90:9
 returns : tie.Need-returns Inv-loop μ-loop
 returns c = sym (bodyOk-short _ _ _ (omega arith))
 
--- src/body.rt:92:9
 count-requires : tie.Need-count-requires Inv-loop μ-loop
 count-requires c κs = search needs
 
--- src/body.rt:94:9
 returns-2 : tie.Need-returns-2 Inv-loop μ-loop
 returns-2 c = sym (bodyOk-many _ _ _ (omega arith))
 
--- src/body.rt:98:5
 loop-holds : tie.Need-loop-holds Inv-loop μ-loop
 loop-holds c = (sym (place-zero _), omega arith, omega arith, okTo-zero _ _)
 
--- src/body.rt:99:13
 record-ok-requires : tie.Need-record-ok-requires Inv-loop μ-loop
 record-ok-requires c κs = omega arith
 
--- src/body.rt:100:13
 returns-3 : tie.Need-returns-3 Inv-loop μ-loop
 returns-3 c =
     let at-loop = c .before .before .before in
@@ -60,27 +50,21 @@ was-ok c = flag-yes (c .before .record-ok .ensures) (c .if3 .left)
 whole : (c : tie.Else3 Inv-loop μ-loop) → next (B c) (c .before .before .before .loop .at) ≤ length (B c)
 whole c = okAt-facts _ _ _ (was-ok c) .whole
 
--- src/body.rt:102:14
 add-at : tie.Need-add-at Inv-loop μ-loop
 add-at c = omega (arith, whole c)
 
--- src/body.rt:102:23
 read16-requires : tie.Need-read16-requires Inv-loop μ-loop
 read16-requires c κs = search needs
 
--- src/body.rt:102:14
 add-at-2 : tie.Need-add-at-2 Inv-loop μ-loop
 add-at-2 c = omega (arith, whole (c .before))
 
--- src/body.rt:103:9
 add-i : tie.Need-add-i Inv-loop μ-loop
 add-i c = omega arith
 
--- src/body.rt:98:5
 loop-less : tie.Need-loop-less Inv-loop μ-loop
 loop-less c = omega arith
 
--- src/body.rt:98:5
 loop-again : tie.Need-loop-again Inv-loop μ-loop
 loop-again c =
     let inv = c .before .before .before .before .loop .inv in (
@@ -90,7 +74,6 @@ loop-again c =
       okTo-suc _ _ _ (inv .3) (ap (okAt _ _) (sym (inv .0)) ∙ was-ok (c .before)),
     )
 
--- src/body.rt:86:1
 returns-4 : tie.Need-returns-4 Inv-loop μ-loop
 returns-4 c =
     let e : c .before .loop .i ≡ c .before .before .before .count .result = omega arith in

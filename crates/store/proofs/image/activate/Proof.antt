@@ -1,39 +1,31 @@
+-- `store::image::activate` meets its contract.
 use Prim.Native.Nat.{ℕ, _+_, _≤_}
-use mathlib.Core.Path.{_≡_, sym, ap, _∙_}
+use mathlib.Core.Path.{sym, ap, _∙_}
 use mathlib.Core.List.{List}
 use native.Mathlib.Omega.{arith}
 use lib.ListN.{length}
 use denote.Ref.{now}
+use borrow.Author.Needs.{needs}
 use Rattle.store.specs.Biometrics.{bioOk, activate}
 use Rattle.store.specs.Image.{activateIn}
 use Rattle.store.proofs.Updating.{bio-short, activate-length}
 use Rattle.store.proofs.Splicing.{found-inside}
 use Rattle.store.proofs.Files.{missing-body, missing-put, lent, come-back}
-use borrow.Author.Needs.{needs}
 use Rattle.store.proofs.image.activate.Statement.{statement}
 use Rattle.store.proofs.image.activate.Tie as tie
-use Rattle.store.proofs.image.activate.Reads as reads
-use Rattle.store.proofs.image.activate.Lts as lts
-use Rattle.store.proofs.biometrics.activate.Reads as activate-reads
-use Rattle.store.proofs.image.find.Reads as find-reads
 
--- src/image.rt:166:33
 find-requires : tie.Need-find-requires
 find-requires c κs = search needs
 
--- src/image.rt:166:19
 enum-known-start : tie.Need-enum-known-start
 enum-known-start c = search needs
 
--- src/image.rt:167:9
 enum-told : tie.Need-enum-told
 enum-told c = search needs
 
--- src/image.rt:167:9
 same-length : tie.Need-same-length
 same-length c = search needs
 
--- src/image.rt:167:9
 returns : tie.Need-returns
 unfolding activateIn
 returns c =
@@ -45,31 +37,24 @@ returns c =
 inside : (c : tie.After-known-told) → c .before .start .given .0 .0 + c .before .start .given .0 .1 .0 ≤ length (now (c .before .before .before .before .before .before .args .image))
 inside c = found-inside _ _ _ _ (sym (c .before .before .before .find .ensures) ∙ c .before .start .given .1)
 
--- src/image.rt:169:15
 add-end : tie.Need-add-end
 add-end c = omega (arith, inside c)
 
--- src/image.rt:170:26
 sub-activate : tie.Need-sub-activate
 sub-activate c = search needs
 
--- src/image.rt:170:26
 part-activate-start : tie.Need-part-activate-start
 part-activate-start c = search needs
 
--- src/image.rt:170:26
 part-activate-end : tie.Need-part-activate-end
 part-activate-end c = omega (arith, inside c)
 
--- src/image.rt:170:5
 activate-requires : tie.Need-activate-requires
 activate-requires c κs = search needs
 
--- src/image.rt:163:1
 same-length-2 : tie.Need-same-length-2
 same-length-2 c = search needs
 
--- src/image.rt:163:1
 returns-2 : tie.Need-returns-2
 unfolding activateIn
 returns-2 c =

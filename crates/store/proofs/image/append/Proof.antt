@@ -1,39 +1,31 @@
+-- `store::image::append` meets its contract.
 use Prim.Native.Nat.{ℕ, _+_, _≤_}
-use mathlib.Core.Path.{_≡_, sym, ap, _∙_}
+use mathlib.Core.Path.{sym, ap, _∙_}
 use mathlib.Core.List.{List}
 use native.Mathlib.Omega.{arith}
 use lib.ListN.{length}
 use denote.Ref.{now}
+use borrow.Author.Needs.{needs}
 use Rattle.store.specs.Body.{takes, append}
 use Rattle.store.specs.Image.{appendTo}
 use Rattle.store.proofs.Appending.{takes-nothing, append-length}
 use Rattle.store.proofs.Splicing.{found-inside}
 use Rattle.store.proofs.Files.{missing-body, missing-put, lent, come-back}
-use borrow.Author.Needs.{needs}
 use Rattle.store.proofs.image.append.Statement.{statement}
 use Rattle.store.proofs.image.append.Tie as tie
-use Rattle.store.proofs.image.append.Reads as reads
-use Rattle.store.proofs.image.append.Lts as lts
-use Rattle.store.proofs.body.append.Reads as append-reads
-use Rattle.store.proofs.image.find.Reads as find-reads
 
--- src/image.rt:144:33
 find-requires : tie.Need-find-requires
 find-requires c κs = search needs
 
--- src/image.rt:144:19
 enum-known-start : tie.Need-enum-known-start
 enum-known-start c = search needs
 
--- src/image.rt:145:9
 enum-told : tie.Need-enum-told
 enum-told c = search needs
 
--- src/image.rt:145:9
 same-length : tie.Need-same-length
 same-length c = search needs
 
--- src/image.rt:145:9
 returns : tie.Need-returns
 unfolding appendTo
 returns c =
@@ -45,31 +37,24 @@ returns c =
 inside : (c : tie.After-known-told) → c .before .start .given .0 .0 + c .before .start .given .0 .1 .0 ≤ length (now (c .before .before .before .before .before .before .before .args .image))
 inside c = found-inside _ _ _ _ (sym (c .before .before .before .find .ensures) ∙ c .before .start .given .1)
 
--- src/image.rt:147:15
 add-end : tie.Need-add-end
 add-end c = omega (arith, inside c)
 
--- src/image.rt:148:18
 sub-append : tie.Need-sub-append
 sub-append c = search needs
 
--- src/image.rt:148:18
 part-append-start : tie.Need-part-append-start
 part-append-start c = search needs
 
--- src/image.rt:148:18
 part-append-end : tie.Need-part-append-end
 part-append-end c = omega (arith, inside c)
 
--- src/image.rt:148:5
 append-requires : tie.Need-append-requires
 append-requires c κs = search needs
 
--- src/image.rt:141:1
 same-length-2 : tie.Need-same-length-2
 same-length-2 c = search needs
 
--- src/image.rt:141:1
 returns-2 : tie.Need-returns-2
 unfolding appendTo
 returns-2 c =

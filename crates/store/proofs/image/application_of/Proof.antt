@@ -1,21 +1,17 @@
+-- `store::image::application_of` meets its contract.
 use borrow.Author.Tests.{lt-ltb, le-ltb}
 use Rattle.store.specs.Image.{applicationOf}
 use Rattle.store.proofs.image.application_of.Statement.{statement}
 use Rattle.store.proofs.image.application_of.Tie as tie
-use Rattle.store.proofs.image.application_of.Reads as reads
-use Rattle.store.proofs.image.application_of.Lts as lts
 
--- src/image.rt:91:9
 returns : tie.Need-returns
 unfolding applicationOf
 returns c = simp (lt-ltb _ _ (c .if1 .taken))
 
--- src/image.rt:94:9
 returns-2 : tie.Need-returns-2
 unfolding applicationOf
 returns-2 c = simp (le-ltb _ _ (c .before .if1 .left), lt-ltb _ _ (c .if2 .taken))
 
--- src/image.rt:87:1
 returns-3 : tie.Need-returns-3
 unfolding applicationOf
 returns-3 c = simp (le-ltb _ _ (c .before .if1 .left), le-ltb _ _ (c .if2 .left))

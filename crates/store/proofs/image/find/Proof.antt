@@ -1,3 +1,4 @@
+-- `store::image::find` meets its contract.
 use Prim.Native.Nat.{_-_, _≤_}
 use native.Mathlib.Omega.{arith}
 use borrow.Author.Needs.{needs}
@@ -5,10 +6,6 @@ use lib.ListN.{length}
 use Rattle.store.proofs.Sections.{Seeking, seek-start, seek-none, seek-hit, seek-next}
 use Rattle.store.proofs.image.find.Statement.{statement}
 use Rattle.store.proofs.image.find.Tie as tie
-use Rattle.store.proofs.image.find.Reads as reads
-use Rattle.store.proofs.image.find.Lts as lts
-use Rattle.store.proofs.little.read16.Reads as read16-reads
-use Rattle.store.proofs.little.read32.Reads as read32-reads
 
 abbrev Inv-loop : tie.InvT-loop
 Inv-loop image kind at₀ at = Seeking image kind at × (at ≤ length image)
@@ -16,63 +13,48 @@ Inv-loop image kind at₀ at = Seeking image kind at × (at ≤ length image)
 abbrev μ-loop : tie.MeasureT-loop
 μ-loop image kind at₀ at = length image - at
 
--- src/image.rt:28:5
 loop-holds : tie.Need-loop-holds Inv-loop μ-loop
 loop-holds c = (seek-start _ _, omega arith)
 
--- src/image.rt:28:16
 sub-loop : tie.Need-sub-loop Inv-loop μ-loop
 sub-loop c = omega arith
 
--- src/image.rt:29:13
 read32-requires : tie.Need-read32-requires Inv-loop μ-loop
 read32-requires c κs = search needs
 
--- src/image.rt:30:12
 sub-if1 : tie.Need-sub-if1 Inv-loop μ-loop
 sub-if1 c = omega arith
 
--- src/image.rt:30:12
 sub-if1-2 : tie.Need-sub-if1-2 Inv-loop μ-loop
 sub-if1-2 c = omega arith
 
--- src/image.rt:31:13
 returns : tie.Need-returns Inv-loop μ-loop
 returns c = seek-none _ _ _ (c .before .before .before .loop .inv .0) (omega arith)
 
--- src/image.rt:33:26
 add-read16 : tie.Need-add-read16 Inv-loop μ-loop
 add-read16 c = omega arith
 
--- src/image.rt:33:12
 read16-requires : tie.Need-read16-requires Inv-loop μ-loop
 read16-requires c κs = search needs
 
--- src/image.rt:34:30
 add-t9 : tie.Need-add-t9 Inv-loop μ-loop
 add-t9 c = omega arith
 
--- src/image.rt:34:13
 returns-2 : tie.Need-returns-2 Inv-loop μ-loop
 returns-2 c = seek-hit _ _ _ (c .before .before .before .before .before .loop .inv .0) _ _ (c .before .before .before .read32 .ensures .0) (c .before .read16 .ensures .0) (omega arith) (c .if2 .taken)
 
--- src/image.rt:36:14
 add-at : tie.Need-add-at Inv-loop μ-loop
 add-at c = omega arith
 
--- src/image.rt:36:14
 add-at-2 : tie.Need-add-at-2 Inv-loop μ-loop
 add-at-2 c = omega arith
 
--- src/image.rt:28:5
 loop-less : tie.Need-loop-less Inv-loop μ-loop
 loop-less c = omega arith
 
--- src/image.rt:28:5
 loop-again : tie.Need-loop-again Inv-loop μ-loop
 loop-again c = (seek-next _ _ _ (c .before .before .before .before .before .loop .inv .0) _ _ (c .before .before .before .read32 .ensures .0) (c .before .read16 .ensures .0) (omega arith) (c .if2 .left), omega arith)
 
--- src/image.rt:24:1
 returns-3 : tie.Need-returns-3 Inv-loop μ-loop
 returns-3 c = seek-none _ _ _ (c .before .loop .inv .0) (omega arith)
 

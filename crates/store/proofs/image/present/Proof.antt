@@ -1,89 +1,91 @@
+use Prim.Native.Nat.{_-_}
 use mathlib.Core.Path.{sym, _∙_}
-use mathlib.Core.Bool.{and-true}
-use borrow.Author.Tests.{eq-eqb, ne-eqb}
-use Rattle.base.specs.Choice.{every}
-use Rattle.base.proofs.Cases.{flag-no, flag-yes}
-use Rattle.store.specs.Image.{present}
+use native.Mathlib.Omega.{arith}
 use borrow.Author.Needs.{needs}
+use Rattle.base.proofs.Cases.{flag-no, flag-yes}
+use Rattle.store.proofs.Table.{row-end}
+use Rattle.store.proofs.Presence.{Left, present-low, present-high, left-start, left-next, left-missing, left-end}
 use Rattle.store.proofs.image.present.Statement.{statement}
 use Rattle.store.proofs.image.present.Tie as tie
 use Rattle.store.proofs.image.present.Reads as reads
 use Rattle.store.proofs.image.present.Lts as lts
-use Rattle.store.proofs.image.has.Reads as has-reads
+use Rattle.store.proofs.image.there.Reads as there-reads
+use Rattle.store.proofs.rules.row.Reads as row-reads
 
--- src/image.rt:66:13
-has-requires : tie.Need-has-requires
-has-requires c κs = search needs
+abbrev Inv-loop : tie.InvT-loop
+Inv-loop image application i₀ i = Left image application i
 
--- src/image.rt:67:13
-returns : tie.Need-returns
-unfolding present every
-returns c = simp (eq-eqb _ _ (c .before .before .if1 .taken), flag-no (c .before .has .ensures) (c .if2 .taken))
-
--- src/image.rt:69:13
-has-requires-2 : tie.Need-has-requires-2
-has-requires-2 c κs = search needs
-
--- src/image.rt:70:13
-returns-2 : tie.Need-returns-2
-unfolding present every
-returns-2 c = simp (eq-eqb _ _ (c .before .before .before .before .if1 .taken), flag-yes (c .before .before .before .has .ensures) (c .before .before .if2 .left), flag-no (c .before .has2 .ensures) (c .if3 .taken))
-
--- src/image.rt:72:9
-has-requires-3 : tie.Need-has-requires-3
-has-requires-3 c κs = search needs
-
--- src/image.rt:72:9
-returns-3 : tie.Need-returns-3
-unfolding present every
-returns-3 c = simp (eq-eqb _ _ (c .before .before .before .before .before .if1 .taken), flag-yes (c .before .before .before .before .has .ensures) (c .before .before .before .if2 .left), flag-yes (c .before .before .has2 .ensures) (c .before .if3 .left), and-true) (c .has3 .ensures)
-
--- src/image.rt:75:13
-has-requires-4 : tie.Need-has-requires-4
-has-requires-4 c κs = search needs
-
--- src/image.rt:76:13
-returns-4 : tie.Need-returns-4
-unfolding present every
-returns-4 c = simp (ne-eqb _ _ (c .before .before .before .if1 .left), eq-eqb _ _ (c .before .before .if4 .taken), flag-no (c .before .has4 .ensures) (c .if5 .taken))
-
--- src/image.rt:78:9
-has-requires-5 : tie.Need-has-requires-5
-has-requires-5 c κs = search needs
-
--- src/image.rt:78:9
-returns-5 : tie.Need-returns-5
-unfolding present every
-returns-5 c = simp (ne-eqb _ _ (c .before .before .before .before .if1 .left), eq-eqb _ _ (c .before .before .before .if4 .taken), flag-yes (c .before .before .has4 .ensures) (c .before .if5 .left), and-true) (c .has5 .ensures)
+abbrev μ-loop : tie.MeasureT-loop
+μ-loop image application i₀ i = 6 - i
 
 -- src/image.rt:81:9
-has-requires-6 : tie.Need-has-requires-6
-has-requires-6 c κs = search needs
+returns : tie.Need-returns Inv-loop μ-loop
+returns c = sym (present-low _ _ (c .if1 .taken))
 
--- src/image.rt:81:9
-returns-6 : tie.Need-returns-6
-unfolding present every
-returns-6 c = simp (ne-eqb _ _ (c .before .before .before .if1 .left), ne-eqb _ _ (c .before .before .if4 .left), eq-eqb _ _ (c .before .if6 .taken)) (c .has6 .ensures)
+-- src/image.rt:84:9
+returns-2 : tie.Need-returns-2 Inv-loop μ-loop
+returns-2 c = sym (present-high _ _ (c .if2 .taken))
 
--- src/image.rt:62:1
-returns-7 : tie.Need-returns-7
-unfolding present every
-returns-7 c = simp (ne-eqb _ _ (c .before .before .if1 .left), ne-eqb _ _ (c .before .if4 .left), ne-eqb _ _ (c .if6 .left))
+-- src/image.rt:87:5
+loop-holds : tie.Need-loop-holds Inv-loop μ-loop
+loop-holds c = left-start _ _ (omega arith) (omega arith)
+
+-- src/image.rt:88:28
+row-requires : tie.Need-row-requires Inv-loop μ-loop
+row-requires c κs = search needs
+
+-- src/image.rt:88:23
+enum-known-r : tie.Need-enum-known-r Inv-loop μ-loop
+enum-known-r c = search needs
+
+-- src/image.rt:89:13
+enum-told : tie.Need-enum-told Inv-loop μ-loop
+enum-told c = search needs
+
+-- src/image.rt:89:13
+returns-3 : tie.Need-returns-3 Inv-loop μ-loop
+returns-3 c = left-end _ _ (c .before .before .before .before .loop .i) (c .before .before .before .before .loop .inv) (sym (c .before .before .row .ensures) ∙ c .enum-told .given .1)
+
+-- src/image.rt:91:13
+there-requires : tie.Need-there-requires Inv-loop μ-loop
+there-requires c κs = search needs
+
+-- src/image.rt:92:13
+returns-4 : tie.Need-returns-4 Inv-loop μ-loop
+returns-4 c = left-missing _ _ (c .before .before .before .before .before .before .before .loop .i) (c .before .before .before .before .before .before .before .loop .inv) _ (sym (c .before .before .before .before .before .row .ensures) ∙ c .before .before .before .r .given .1) (flag-no (c .before .there .ensures) (c .if3 .taken))
+
+-- src/image.rt:94:9
+add-i : tie.Need-add-i Inv-loop μ-loop
+add-i c = omega arith
+
+-- src/image.rt:87:5
+loop-less : tie.Need-loop-less Inv-loop μ-loop
+loop-less c = omega arith
+
+-- src/image.rt:87:5
+loop-again : tie.Need-loop-again Inv-loop μ-loop
+loop-again c = left-next _ _ (c .before .before .before .before .before .before .before .loop .i) (c .before .before .before .before .before .before .before .loop .inv) _ (sym (c .before .before .before .before .before .row .ensures) ∙ c .before .before .before .r .given .1) (flag-yes (c .before .there .ensures) (c .if3 .left))
+
+-- src/image.rt:77:1
+returns-5 : tie.Need-returns-5 Inv-loop μ-loop
+returns-5 c = left-end _ _ (c .before .loop .i) (c .before .loop .inv) (row-end _ (c .loop-test .left))
 
 pub present-spec : {M : Type 1} → statement M
 present-spec =
     tie.close
     (tie.spec
-    has-requires
+    Inv-loop
+    μ-loop
     returns
-    has-requires-2
     returns-2
-    has-requires-3
+    loop-holds
+    row-requires
+    enum-known-r
+    enum-told
     returns-3
-    has-requires-4
+    there-requires
     returns-4
-    has-requires-5
-    returns-5
-    has-requires-6
-    returns-6
-    returns-7)
+    add-i
+    loop-less
+    loop-again
+    returns-5)

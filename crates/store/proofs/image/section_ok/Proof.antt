@@ -1,80 +1,57 @@
+-- `store::image::section_ok` meets its contract.
 use mathlib.Core.Path.{sym, _∙_}
 use native.Mathlib.Omega.{arith}
+use borrow.Author.Needs.{needs}
 use Rattle.base.proofs.Cases.{flag-no, flag-yes}
 use Rattle.store.proofs.Sections.{section-short, section-order, section-body, section-rest}
-use borrow.Author.Needs.{needs}
 use Rattle.store.proofs.image.section_ok.Statement.{statement}
 use Rattle.store.proofs.image.section_ok.Tie as tie
-use Rattle.store.proofs.image.section_ok.Reads as reads
-use Rattle.store.proofs.image.section_ok.Lts as lts
-use Rattle.base.proofs.part.Reads as part-reads
-use Rattle.store.proofs.image.application_of.Reads as application-of-reads
-use Rattle.store.proofs.image.present.Reads as present-reads
-use Rattle.store.proofs.little.read16.Reads as read16-reads
-use Rattle.store.proofs.little.read32.Reads as read32-reads
-use Rattle.store.proofs.rules.kind_ok.Reads as kind-ok-reads
 
--- src/image.rt:104:8
 sub-if1 : tie.Need-sub-if1
 sub-if1 c = search needs
 
--- src/image.rt:105:9
 returns : tie.Need-returns
 returns c = sym (section-short _ _ _ (omega arith))
 
--- src/image.rt:107:9
 read32-requires : tie.Need-read32-requires
 read32-requires c κs = search needs
 
--- src/image.rt:108:8
 sub-if2 : tie.Need-sub-if2
 sub-if2 c = search needs
 
--- src/image.rt:108:8
 sub-if2-2 : tie.Need-sub-if2-2
 sub-if2-2 c = search needs
 
--- src/image.rt:109:9
 returns-2 : tie.Need-returns-2
 returns-2 c = sym (section-short _ _ _ (omega arith))
 
--- src/image.rt:111:30
 add-read16 : tie.Need-add-read16
 add-read16 c = search needs
 
--- src/image.rt:111:9
 read16-requires : tie.Need-read16-requires
 read16-requires c κs = search needs
 
--- src/image.rt:113:9
 returns-3 : tie.Need-returns-3
 returns-3 c = sym (section-order _ _ _ (omega arith))
 
--- src/image.rt:115:41
 add-part : tie.Need-add-part
 add-part c = search needs
 
--- src/image.rt:115:23
 part-requires : tie.Need-part-requires
 part-requires c κs = search needs
 
--- src/image.rt:115:9
 kind-ok-requires : tie.Need-kind-ok-requires
 kind-ok-requires c κs = search needs
 
--- src/image.rt:116:9
 returns-4 : tie.Need-returns-4
 returns-4 c = sym (section-body _ _ _ _ _ (c .before .before .before .before .before .before .read32 .ensures .0) (c .before .before .before .before .read16 .ensures .0) _ (c .before .before .part .ensures) (flag-no (c .before .kind-ok .ensures) (c .if4 .taken)))
 
--- src/image.rt:118:20
 application-of-requires : tie.Need-application-of-requires
 application-of-requires c κs = search needs
 
--- src/image.rt:118:5
 present-requires : tie.Need-present-requires
 present-requires c κs = search needs
 
--- src/image.rt:100:1
 returns-5 : tie.Need-returns-5
 returns-5 c =
     c .present .ensures

@@ -1,39 +1,31 @@
+-- `store::image::update` meets its contract.
 use Prim.Native.Nat.{ℕ, _+_, _≤_}
-use mathlib.Core.Path.{_≡_, sym, ap, _∙_}
+use mathlib.Core.Path.{sym, ap, _∙_}
 use mathlib.Core.List.{List}
 use native.Mathlib.Omega.{arith}
 use lib.ListN.{length}
 use denote.Ref.{now}
+use borrow.Author.Needs.{needs}
 use Rattle.store.specs.Biometrics.{takes, update}
 use Rattle.store.specs.Image.{updateIn}
 use Rattle.store.proofs.Updating.{takes-nothing, update-length}
 use Rattle.store.proofs.Splicing.{found-inside}
 use Rattle.store.proofs.Files.{missing-body, missing-put, lent, come-back}
-use borrow.Author.Needs.{needs}
 use Rattle.store.proofs.image.update.Statement.{statement}
 use Rattle.store.proofs.image.update.Tie as tie
-use Rattle.store.proofs.image.update.Reads as reads
-use Rattle.store.proofs.image.update.Lts as lts
-use Rattle.store.proofs.biometrics.update.Reads as update-reads
-use Rattle.store.proofs.image.find.Reads as find-reads
 
--- src/image.rt:155:33
 find-requires : tie.Need-find-requires
 find-requires c κs = search needs
 
--- src/image.rt:155:19
 enum-known-start : tie.Need-enum-known-start
 enum-known-start c = search needs
 
--- src/image.rt:156:9
 enum-told : tie.Need-enum-told
 enum-told c = search needs
 
--- src/image.rt:156:9
 same-length : tie.Need-same-length
 same-length c = search needs
 
--- src/image.rt:156:9
 returns : tie.Need-returns
 unfolding updateIn
 returns c =
@@ -45,31 +37,24 @@ returns c =
 inside : (c : tie.After-known-told) → c .before .start .given .0 .0 + c .before .start .given .0 .1 .0 ≤ length (now (c .before .before .before .before .before .before .before .args .image))
 inside c = found-inside _ _ _ _ (sym (c .before .before .before .find .ensures) ∙ c .before .start .given .1)
 
--- src/image.rt:158:15
 add-end : tie.Need-add-end
 add-end c = omega (arith, inside c)
 
--- src/image.rt:159:24
 sub-update : tie.Need-sub-update
 sub-update c = search needs
 
--- src/image.rt:159:24
 part-update-start : tie.Need-part-update-start
 part-update-start c = search needs
 
--- src/image.rt:159:24
 part-update-end : tie.Need-part-update-end
 part-update-end c = omega (arith, inside c)
 
--- src/image.rt:159:5
 update-requires : tie.Need-update-requires
 update-requires c κs = search needs
 
--- src/image.rt:152:1
 same-length-2 : tie.Need-same-length-2
 same-length-2 c = search needs
 
--- src/image.rt:152:1
 returns-2 : tie.Need-returns-2
 unfolding updateIn
 returns-2 c =

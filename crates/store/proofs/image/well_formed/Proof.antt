@@ -1,4 +1,5 @@
-use Prim.Native.Nat.{ℕ, _+_, _-_, _≤_}
+-- `store::image::well_formed` meets its contract.
+use Prim.Native.Nat.{ℕ, _-_, _≤_}
 use mathlib.Core.Path.{_≡_}
 use mathlib.Core.Bool.{true}
 use mathlib.Core.List.{List}
@@ -11,11 +12,6 @@ use Rattle.store.specs.Image.{sectionOk, endAt}
 use Rattle.store.proofs.Sections.{Walking, walk-start, walk-long, walk-end, walk-bad, walk-next, section-facts}
 use Rattle.store.proofs.image.well_formed.Statement.{statement}
 use Rattle.store.proofs.image.well_formed.Tie as tie
-use Rattle.store.proofs.image.well_formed.Reads as reads
-use Rattle.store.proofs.image.well_formed.Lts as lts
-use Rattle.store.proofs.image.section_ok.Reads as section-ok-reads
-use Rattle.store.proofs.little.read16.Reads as read16-reads
-use Rattle.store.proofs.little.read32.Reads as read32-reads
 
 abbrev Inv-loop : tie.InvT-loop
 Inv-loop image at₀ last₀ at last = Walking image at last × (at ≤ length image)
@@ -23,19 +19,15 @@ Inv-loop image at₀ last₀ at last = Walking image at last × (at ≤ length i
 abbrev μ-loop : tie.MeasureT-loop
 μ-loop image at₀ last₀ at last = length image - at
 
--- src/image.rt:126:9
 returns : tie.Need-returns Inv-loop μ-loop
 returns c = walk-long _ (c .if1 .taken)
 
--- src/image.rt:130:5
 loop-holds : tie.Need-loop-holds Inv-loop μ-loop
 loop-holds c = (walk-start _ (c .if1 .left), omega arith)
 
--- src/image.rt:131:13
 section-ok-requires : tie.Need-section-ok-requires Inv-loop μ-loop
 section-ok-requires c κs = omega arith
 
--- src/image.rt:132:13
 returns-2 : tie.Need-returns-2 Inv-loop μ-loop
 returns-2 c = walk-bad _ _ _ (c .before .before .before .loop .inv .0) (c .before .before .loop-test .taken) (flag-no (c .before .section-ok .ensures) (c .if2 .taken))
 
@@ -49,35 +41,27 @@ was-ok c = flag-yes (c .before .section-ok .ensures) (c .if2 .left)
 whole : (c : tie.Else2 Inv-loop μ-loop) → endAt (I c) (c .before .before .before .loop .at) ≤ length (I c)
 whole c = section-facts _ _ _ (was-ok c) .whole
 
--- src/image.rt:134:30
 add-read16 : tie.Need-add-read16 Inv-loop μ-loop
 add-read16 c = omega (arith, whole c)
 
--- src/image.rt:134:9
 read16-requires : tie.Need-read16-requires Inv-loop μ-loop
 read16-requires c κs = search needs
 
--- src/image.rt:135:14
 add-at : tie.Need-add-at Inv-loop μ-loop
 add-at c = omega (arith, whole (c .before))
 
--- src/image.rt:135:23
 read32-requires : tie.Need-read32-requires Inv-loop μ-loop
 read32-requires c κs = search needs
 
--- src/image.rt:135:14
 add-at-2 : tie.Need-add-at-2 Inv-loop μ-loop
 add-at-2 c = omega (arith, whole (c .before .before))
 
--- src/image.rt:130:5
 loop-less : tie.Need-loop-less Inv-loop μ-loop
 loop-less c = omega (arith, whole (c .before .before))
 
--- src/image.rt:130:5
 loop-again : tie.Need-loop-again Inv-loop μ-loop
 loop-again c = (walk-next _ _ _ (c .before .before .before .before .before .loop .inv .0) (c .before .before .before .before .loop-test .taken) _ _ (c .read32 .ensures .0) (c .before .read16 .ensures .0) (was-ok (c .before .before)), omega (arith, whole (c .before .before)))
 
--- src/image.rt:122:1
 returns-3 : tie.Need-returns-3 Inv-loop μ-loop
 returns-3 c = walk-end _ _ _ (c .before .loop .inv .0) (c .loop-test .left)
 

@@ -1,40 +1,30 @@
+-- `store::little::read16` meets its contract.
 use mathlib.Core.Path.{sym}
 use native.Mathlib.Omega.{arith}
-use denote.Ref.{now}
+use borrow.Author.Needs.{needs}
 use Rattle.store.specs.Little.{le16}
 use Rattle.store.proofs.Numbers.{le16-past}
-use borrow.Author.Needs.{needs}
 use Rattle.store.proofs.little.read16.Statement.{statement}
 use Rattle.store.proofs.little.read16.Tie as tie
-use Rattle.store.proofs.little.read16.Reads as reads
-use Rattle.store.proofs.little.read16.Lts as lts
-use Rattle.base.proofs.byte.Reads as byte-reads
 
--- src/little.rt:11:9
 returns : tie.Need-returns
 returns c = (sym (le16-past _ _ (omega arith)), omega arith)
 
--- src/little.rt:13:5
 byte-requires : tie.Need-byte-requires
 byte-requires c κs = search needs
 
--- src/little.rt:13:45
 add-byte : tie.Need-add-byte
 add-byte c = search needs
 
--- src/little.rt:13:31
 byte-requires-2 : tie.Need-byte-requires-2
 byte-requires-2 c κs = search needs
 
--- src/little.rt:13:25
 mul-result : tie.Need-mul-result
 mul-result c = search needs
 
--- src/little.rt:13:5
 add-result : tie.Need-add-result
 add-result c = search needs
 
--- src/little.rt:7:1
 returns-2 : tie.Need-returns-2
 unfolding le16
 returns-2 c = omega arith

@@ -1,39 +1,30 @@
+-- `store::rules::has_key` meets its contract.
 use borrow.Author.Tests.{eq-eqb, ne-eqb}
 use borrow.Author.Needs.{needs}
 use Rattle.store.proofs.rules.has_key.Statement.{statement}
 use Rattle.store.proofs.rules.has_key.Tie as tie
-use Rattle.store.proofs.rules.has_key.Reads as reads
-use Rattle.store.proofs.rules.has_key.Lts as lts
 
--- src/rules.rt:100:19
 enum-known-key : tie.Need-enum-known-key
 enum-known-key c = search needs
 
--- src/rules.rt:101:17
 enum-known-key-2 : tie.Need-enum-known-key-2
 enum-known-key-2 c = search needs
 
--- src/rules.rt:103:17
 returns : tie.Need-returns
 returns c = simp (c .before .before .before .key2 .given .1, ne-eqb _ _ (c .if1 .taken))
 
--- src/rules.rt:107:20
 enum-known-key-3 : tie.Need-enum-known-key-3
 enum-known-key-3 c = search needs
 
--- src/rules.rt:109:17
 returns-2 : tie.Need-returns-2
 returns-2 c = simp (c .before .before .before .key3 .given .1, ne-eqb _ _ (c .if2 .taken))
 
--- src/rules.rt:96:1
 returns-3 : tie.Need-returns-3
 returns-3 c = simp (c .before .before .key .given .1)
 
--- src/rules.rt:96:1
 returns-4 : tie.Need-returns-4
 returns-4 c = simp (c .before .before .before .before .key2 .given .1, eq-eqb _ _ (c .before .if1 .left))
 
--- src/rules.rt:96:1
 returns-5 : tie.Need-returns-5
 returns-5 c = simp (c .before .before .before .before .key3 .given .1, eq-eqb _ _ (c .before .if2 .left))
 

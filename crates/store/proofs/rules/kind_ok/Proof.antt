@@ -1,48 +1,35 @@
+-- `store::rules::kind_ok` meets its contract.
 use mathlib.Core.Path.{sym, _∙_}
 use native.Mathlib.Omega.{arith}
-use Rattle.store.proofs.ByKind.{kindOk-rule, kindOk-low, kindOk-high, kindOk-biometrics}
 use borrow.Author.Needs.{needs}
+use Rattle.store.proofs.ByKind.{kindOk-rule, kindOk-low, kindOk-high, kindOk-biometrics}
 use Rattle.store.proofs.rules.kind_ok.Statement.{statement}
 use Rattle.store.proofs.rules.kind_ok.Tie as tie
-use Rattle.store.proofs.rules.kind_ok.Reads as reads
-use Rattle.store.proofs.rules.kind_ok.Lts as lts
-use Rattle.store.proofs.biometrics.well_formed.Reads as biometrics-well-formed-reads
-use Rattle.store.proofs.body.well_formed.Reads as body-well-formed-reads
-use Rattle.store.proofs.rules.look.Reads as look-reads
 
--- src/rules.rt:135:11
 look-requires : tie.Need-look-requires
 look-requires c κs = search needs
 
--- src/rules.rt:136:19
 enum-known-r : tie.Need-enum-known-r
 enum-known-r c = search needs
 
--- src/rules.rt:136:25
 well-formed-requires : tie.Need-well-formed-requires
 well-formed-requires c κs = search needs
 
--- src/rules.rt:138:16
 enum-told : tie.Need-enum-told
 enum-told c = search needs
 
--- src/rules.rt:139:17
 returns : tie.Need-returns
 returns c = sym (kindOk-low _ _ (sym (c .before .before .before .look .ensures) ∙ c .before .enum-told .given .1) (omega arith))
 
--- src/rules.rt:142:17
 returns-2 : tie.Need-returns-2
 returns-2 c = sym (kindOk-high _ _ (sym (c .before .before .before .before .look .ensures) ∙ c .before .before .enum-told .given .1) (omega arith))
 
--- src/rules.rt:144:13
 well-formed-requires-2 : tie.Need-well-formed-requires-2
 well-formed-requires-2 c κs = search needs
 
--- src/rules.rt:132:1
 returns-3 : tie.Need-returns-3
 returns-3 c = c .well-formed .ensures ∙ sym (kindOk-rule _ _ _ (sym (c .before .before .before .before .look .ensures) ∙ c .before .before .r .given .1))
 
--- src/rules.rt:132:1
 returns-4 : tie.Need-returns-4
 returns-4 c = c .well-formed2 .ensures ∙ sym (kindOk-biometrics _ _ (sym (c .before .before .before .before .before .look .ensures) ∙ c .before .before .before .enum-told .given .1) (omega arith) (omega arith))
 

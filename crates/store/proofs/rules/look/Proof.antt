@@ -1,10 +1,10 @@
-use Prim.Native.Nat.{_-_, _≤_}
+use Prim.Native.Nat.{_-_}
 use mathlib.Core.Path.{_≡_, sym, _∙_}
 use native.Mathlib.Omega.{arith}
-use lib.ListN.{drop}
 use borrow.Author.Needs.{needs}
+use lib.ListN.{drop}
 use Rattle.store.specs.Rules.{rules, firstOf, ruleOf}
-use Rattle.store.proofs.Table.{look-start, look-hit, look-next, look-end}
+use Rattle.store.proofs.Table.{row-end, look-start, look-hit, look-next, look-end}
 use Rattle.store.proofs.rules.look.Statement.{statement}
 use Rattle.store.proofs.rules.look.Tie as tie
 use Rattle.store.proofs.rules.look.Reads as reads
@@ -18,37 +18,49 @@ Inv-loop key i₀ i = ruleOf key ≡ firstOf key (drop i rules)
 abbrev μ-loop : tie.MeasureT-loop
 μ-loop key i₀ i = 6 - i
 
--- src/rules.rt:121:5
+-- src/rules.rt:120:5
 loop-holds : tie.Need-loop-holds Inv-loop μ-loop
 loop-holds c = look-start _
 
--- src/rules.rt:122:13
+-- src/rules.rt:121:28
 row-requires : tie.Need-row-requires Inv-loop μ-loop
-row-requires c κs = c .loop-test .taken
+row-requires c κs = search needs
 
--- src/rules.rt:123:12
+-- src/rules.rt:121:23
+enum-known-r : tie.Need-enum-known-r Inv-loop μ-loop
+enum-known-r c = search needs
+
+-- src/rules.rt:122:13
+enum-told : tie.Need-enum-told Inv-loop μ-loop
+enum-told c = search needs
+
+-- src/rules.rt:122:13
+returns : tie.Need-returns Inv-loop μ-loop
+returns c = look-end _ (c .before .before .before .before .loop .i) (c .before .before .before .before .loop .inv) (sym (c .before .before .row .ensures) ∙ c .enum-told .given .1)
+
+-- src/rules.rt:124:12
 has-key-requires : tie.Need-has-key-requires Inv-loop μ-loop
 has-key-requires c κs = search needs
 
--- src/rules.rt:124:13
-returns : tie.Need-returns Inv-loop μ-loop
-returns c = look-hit _ (c .before .before .before .before .loop .i) (c .before .before .before .before .loop .inv) _ (c .before .before .row .ensures) (sym (c .before .has-key .ensures) ∙ c .if1 .taken)
+-- src/rules.rt:125:13
+returns-2 : tie.Need-returns-2 Inv-loop μ-loop
+returns-2 c = look-hit _ (c .before .before .before .before .before .before .before .loop .i) (c .before .before .before .before .before .before .before .loop .inv) _ (sym (c .before .before .before .before .before .row .ensures) ∙ c .before .before .before .r .given .1) (sym (c .before .has-key .ensures) ∙ c .if1 .taken)
 
--- src/rules.rt:126:9
+-- src/rules.rt:127:9
 add-i : tie.Need-add-i Inv-loop μ-loop
 add-i c = omega arith
 
--- src/rules.rt:121:5
+-- src/rules.rt:120:5
 loop-less : tie.Need-loop-less Inv-loop μ-loop
 loop-less c = omega arith
 
--- src/rules.rt:121:5
+-- src/rules.rt:120:5
 loop-again : tie.Need-loop-again Inv-loop μ-loop
-loop-again c = look-next _ (c .before .before .before .before .loop .i) (c .before .before .before .before .loop .inv) _ (c .before .before .row .ensures) (sym (c .before .has-key .ensures) ∙ c .if1 .left)
+loop-again c = look-next _ (c .before .before .before .before .before .before .before .loop .i) (c .before .before .before .before .before .before .before .loop .inv) _ (sym (c .before .before .before .before .before .row .ensures) ∙ c .before .before .before .r .given .1) (sym (c .before .has-key .ensures) ∙ c .if1 .left)
 
--- src/rules.rt:117:1
-returns-2 : tie.Need-returns-2 Inv-loop μ-loop
-returns-2 c = look-end _ (c .before .loop .i) (c .before .loop .inv) (c .loop-test .left)
+-- src/rules.rt:116:1
+returns-3 : tie.Need-returns-3 Inv-loop μ-loop
+returns-3 c = look-end _ (c .before .loop .i) (c .before .loop .inv) (row-end _ (c .loop-test .left))
 
 pub look-spec : {M : Type 1} → statement M
 look-spec =
@@ -58,9 +70,12 @@ look-spec =
     μ-loop
     loop-holds
     row-requires
-    has-key-requires
+    enum-known-r
+    enum-told
     returns
+    has-key-requires
+    returns-2
     add-i
     loop-less
     loop-again
-    returns-2)
+    returns-3)
