@@ -4,7 +4,7 @@ use mathlib.Core.Path.{_≡_, refl, sym, ap, ap₂, _∙_}
 use mathlib.Core.List.{List, [], _∷_, _++_}
 use native.Mathlib.Omega.{arith}
 use native.Mathlib.Nat.{le-refl, sub-zero, zero-sub, suc-sub-suc}
-use lib.ListN.{length, getD, take, drop, length-take, length-drop, length-append, drop-of-length-le, List·getD-append}
+use lib.ListN.{take-append-drop, length, getD, take, drop, length-take, length-drop, length-append, drop-of-length-le, List·getD-append}
 use lib.Seq.{getD-take, getD-drop, getD-append-add, ext-getD, drop-drop, take-all, take-nil, take-at, drop-at, length-take-le}
 use Rattle.base.specs.Bytes.{part, splice}
 
@@ -95,3 +95,13 @@ module _ (xs : List ℕ) (s : ℕ) (body : List ℕ) (fits : s + length body ≤
   splice-part =
       ap (take (length body)) (drop-at (take s xs) (body ++ drop (s + length body) xs) s (length-take-le s xs (omega arith)))
       ∙ take-at body (drop (s + length body) xs) (length body) refl
+
+-- a part replaced by itself
+pub splice-same : (xs : List ℕ) (s n : ℕ) → s + n ≤ length xs → splice xs s (part xs s n) ≡ xs
+unfolding splice
+splice-same xs s n h =
+    let l = length-part xs s n h in
+    ap (λ (k : ℕ). take s xs ++ (part xs s n ++ drop (s + k) xs)) l
+    ∙ ap (λ (r : List ℕ). take s xs ++ (part xs s n ++ r)) (sym (drop-drop n s xs))
+    ∙ ap (λ (r : List ℕ). take s xs ++ r) (take-append-drop n (drop s xs))
+    ∙ take-append-drop s xs

@@ -6,12 +6,12 @@ use mathlib.Core.List.{List, [], _++_}
 use native.Mathlib.Omega.{arith}
 use lib.ListN.{length, take, drop}
 use Rattle.base.specs.Bytes.{part, splice}
-use Rattle.base.proofs.Parts.{part-mid, length-part, put-splice, splice-length, splice-part}
+use Rattle.base.proofs.Parts.{part-mid, length-part, put-splice, splice-length, splice-part, splice-same}
 use Rattle.store.specs.Rules.{kindOk}
-use Rattle.store.specs.Image.{find, isAt, has, wellFormed, bodyBy, body, withBodyBy, withBody}
+use Rattle.store.specs.Image.{find, isAt, has, present, applicationOf, wellFormed, bodyBy, body, withBodyBy, withBody}
 use Rattle.store.specs.declared.image.Found.{Found}
 use Rattle.store.specs.declared.image.Found.the-variants.{At, Missing}
-use Rattle.store.proofs.Splicing.{found-ok, found-inside, spliced-find, spliced-other, spliced-ok}
+use Rattle.store.proofs.Splicing.{found-right, found-inside, spliced-find, spliced-other, spliced-ok}
 
 -- ---- what a find says of the file
 
@@ -66,12 +66,27 @@ has-at img k = go (find img k) refl
     go (At s n) e h = there s n e
     go Missing e h = absurd (let z : _≡_ {A = ℕ} 0 1 = cc in omega arith)
 
--- a file of a well-formed image is right for its kind
+-- a file of a well-formed image is right for its kind, and its application is present
 pub body-right : (img : List ℕ) (k : ℕ) → wellFormed img ≡ true → has img k ≡ true → kindOk k (body img k) ≡ true
 body-right img k o h = go (has-at img k h)
   where
     go : There img k → kindOk k (body img k) ≡ true
-    go (there s n e) = ap (kindOk k) (at-body img k s n e) ∙ found-ok img k s n o e
+    go (there s n e) = ap (kindOk k) (at-body img k s n e) ∙ found-right img k s n o e .0
+
+pub has-present : (img : List ℕ) (k : ℕ) → wellFormed img ≡ true → has img k ≡ true → present img (applicationOf k) ≡ true
+has-present img k o h = go (has-at img k h)
+  where
+    go : There img k → present img (applicationOf k) ≡ true
+    go (there s n e) = found-right img k s n o e .1
+
+-- a file that gets its own body again is as it was
+pub put-same : (img : List ℕ) (k : ℕ) → withBody img k (body img k) ≡ img
+put-same img k = go (find img k) refl
+  where
+    go : (f : Found) → find img k ≡ f → withBody img k (body img k) ≡ img
+    go (At s n) e =
+        at-put img k s n e (body img k) ∙ ap (splice img s) (at-body img k s n e) ∙ splice-same img s n (found-inside img k s n e)
+    go Missing e = sym (missing-put img k e (body img k))
 
 -- ---- another body of the same length in the place of a file's
 

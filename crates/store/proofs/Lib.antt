@@ -9,3 +9,4 @@ pub mod Sections
 pub mod Presence
 pub mod Splicing
 pub mod Files
+pub mod Laws

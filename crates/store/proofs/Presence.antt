@@ -1,10 +1,9 @@
 -- Laws of an application that is present: a walk down the rule table, and what is there then.
 use Prim.Native.Nat.{ℕ, _+_, _≤_, _<_}
 use mathlib.Core.Path.{_≡_, refl, sym, ap, _∙_}
-use mathlib.Core.Bool.{Bool, true, false, not, _&&_, _||_, and-true, and-false}
-use mathlib.Core.List.{List, [], _∷_}
+use mathlib.Core.Bool.{Bool, true, false, _&&_, and-true, and-false}
+use mathlib.Core.List.{List}
 use lib.ListN.{drop}
-use lib.Dec.{leb, eqb}
 use borrow.Author.Tests.{lt-leb, le-leb, eq-eqb}
 use Rattle.base.specs.Choice.{every}
 use Rattle.base.proofs.Cases.{held}

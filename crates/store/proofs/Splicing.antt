@@ -186,25 +186,28 @@ open-sections f img p last h o =
     let q : (a && b) ≡ true = simp (lt-leb _ _ h) at o in
     (and-left a b q, and-right a b q)
 
-found-ok-from : (f : ℕ) (img : List ℕ) (p last k s n : ℕ) → sectionsOk f img p last ≡ true → findFrom f img p k ≡ At s n → kindOk k (part img s n) ≡ true
+-- and its application is present
+abbrev pub Right : List ℕ → ℕ → ℕ → ℕ → Type 0
+Right img k s n = (kindOk k (part img s n) ≡ true) × (present img (applicationOf k) ≡ true)
+
+found-right-from : (f : ℕ) (img : List ℕ) (p last k s n : ℕ) → sectionsOk f img p last ≡ true → findFrom f img p k ≡ At s n → Right img k s n
 unfolding findFrom
-found-ok-from zero img p last k s n o e = no s n e
-found-ok-from (suc f) img p last k s n o e = go (found-ok-from f img (endAt img p) (kindAt img p) k s n) (way f img p k s n e)
+found-right-from zero img p last k s n o e = no s n e
+found-right-from (suc f) img p last k s n o e = go (found-right-from f img (endAt img p) (kindAt img p) k s n) (way f img p k s n e)
   where
-    go : (sectionsOk f img (endAt img p) (kindAt img p) ≡ true → findFrom f img (endAt img p) k ≡ At s n → kindOk k (part img s n) ≡ true)
-        → Way img p k s n f → kindOk k (part img s n) ≡ true
+    go : (sectionsOk f img (endAt img p) (kindAt img p) ≡ true → findFrom f img (endAt img p) k ≡ At s n → Right img k s n) → Way img p k s n f → Right img k s n
     go r (here-it-is a b c l) =
-        let q = section-facts img p last (open-sections f img p last (omega arith) o .0) .right in
-        rw (← b, ← c, ← l) q
+        let q = section-facts img p last (open-sections f img p last (omega arith) o .0) in
+        (rw (← b, ← c, ← l) (q .right), rw (← b) (q .beside))
     go r (further a b c) = r (open-sections f img p last (omega arith) o .1) c
 
 sections-of : (img : List ℕ) → wellFormed img ≡ true → sectionsOk (length img) img 0 0 ≡ true
 unfolding wellFormed
 sections-of img o = held _ o .1 .0
 
-pub found-ok : (img : List ℕ) (k s n : ℕ) → wellFormed img ≡ true → find img k ≡ At s n → kindOk k (part img s n) ≡ true
+pub found-right : (img : List ℕ) (k s n : ℕ) → wellFormed img ≡ true → find img k ≡ At s n → Right img k s n
 unfolding find
-found-ok img k s n o e = found-ok-from (length img) img 0 0 k s n (sections-of img o) e
+found-right img k s n o e = found-right-from (length img) img 0 0 k s n (sections-of img o) e
 
 -- ---- a body put in the place of another
 
@@ -224,6 +227,6 @@ module _ (img : List ℕ) (k s : ℕ) (body : List ℕ) (found : find img k ≡ 
       let new : List ℕ = splice img s body in
       let same : length new ≡ length img = splice-length img s body fits in
       let r : kindOk k (part new s (length body)) ≡ true = ap (kindOk k) (splice-part img s body fits) ∙ right in
-      let was : kindOk k (part img s (length body)) ≡ true = found-ok img k s (length body) o found in
+      let was : kindOk k (part img s (length body)) ≡ true = found-right img k s (length body) o found .0 in
       let kept = sections-kept img new s (length body) same (splice-before img s body fits) (splice-after img s body fits) k found r was (length img) 0 0 found in
       rw (same, kept) o

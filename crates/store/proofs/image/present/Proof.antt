@@ -1,3 +1,4 @@
+-- `store::image::present` meets its contract.
 use Prim.Native.Nat.{_-_}
 use mathlib.Core.Path.{sym, _∙_}
 use native.Mathlib.Omega.{arith}
@@ -7,10 +8,6 @@ use Rattle.store.proofs.Table.{row-end}
 use Rattle.store.proofs.Presence.{Left, present-low, present-high, left-start, left-next, left-missing, left-end}
 use Rattle.store.proofs.image.present.Statement.{statement}
 use Rattle.store.proofs.image.present.Tie as tie
-use Rattle.store.proofs.image.present.Reads as reads
-use Rattle.store.proofs.image.present.Lts as lts
-use Rattle.store.proofs.image.there.Reads as there-reads
-use Rattle.store.proofs.rules.row.Reads as row-reads
 
 abbrev Inv-loop : tie.InvT-loop
 Inv-loop image application i₀ i = Left image application i
@@ -18,55 +15,42 @@ Inv-loop image application i₀ i = Left image application i
 abbrev μ-loop : tie.MeasureT-loop
 μ-loop image application i₀ i = 6 - i
 
--- src/image.rt:81:9
 returns : tie.Need-returns Inv-loop μ-loop
 returns c = sym (present-low _ _ (c .if1 .taken))
 
--- src/image.rt:84:9
 returns-2 : tie.Need-returns-2 Inv-loop μ-loop
 returns-2 c = sym (present-high _ _ (c .if2 .taken))
 
--- src/image.rt:87:5
 loop-holds : tie.Need-loop-holds Inv-loop μ-loop
 loop-holds c = left-start _ _ (omega arith) (omega arith)
 
--- src/image.rt:88:28
 row-requires : tie.Need-row-requires Inv-loop μ-loop
 row-requires c κs = search needs
 
--- src/image.rt:88:23
 enum-known-r : tie.Need-enum-known-r Inv-loop μ-loop
 enum-known-r c = search needs
 
--- src/image.rt:89:13
 enum-told : tie.Need-enum-told Inv-loop μ-loop
 enum-told c = search needs
 
--- src/image.rt:89:13
 returns-3 : tie.Need-returns-3 Inv-loop μ-loop
 returns-3 c = left-end _ _ (c .before .before .before .before .loop .i) (c .before .before .before .before .loop .inv) (sym (c .before .before .row .ensures) ∙ c .enum-told .given .1)
 
--- src/image.rt:91:13
 there-requires : tie.Need-there-requires Inv-loop μ-loop
 there-requires c κs = search needs
 
--- src/image.rt:92:13
 returns-4 : tie.Need-returns-4 Inv-loop μ-loop
 returns-4 c = left-missing _ _ (c .before .before .before .before .before .before .before .loop .i) (c .before .before .before .before .before .before .before .loop .inv) _ (sym (c .before .before .before .before .before .row .ensures) ∙ c .before .before .before .r .given .1) (flag-no (c .before .there .ensures) (c .if3 .taken))
 
--- src/image.rt:94:9
 add-i : tie.Need-add-i Inv-loop μ-loop
 add-i c = omega arith
 
--- src/image.rt:87:5
 loop-less : tie.Need-loop-less Inv-loop μ-loop
 loop-less c = omega arith
 
--- src/image.rt:87:5
 loop-again : tie.Need-loop-again Inv-loop μ-loop
 loop-again c = left-next _ _ (c .before .before .before .before .before .before .before .loop .i) (c .before .before .before .before .before .before .before .loop .inv) _ (sym (c .before .before .before .before .before .row .ensures) ∙ c .before .before .before .r .given .1) (flag-yes (c .before .there .ensures) (c .if3 .left))
 
--- src/image.rt:77:1
 returns-5 : tie.Need-returns-5 Inv-loop μ-loop
 returns-5 c = left-end _ _ (c .before .loop .i) (c .before .loop .inv) (row-end _ (c .loop-test .left))
 
