@@ -20,10 +20,10 @@ fn place_of(body: &[u8], n: usize) -> usize
     ensures { λ r. ⌜ (r ≡ place (now (body .entry)) n) × (r < 8589934592) ⌝ }
 {
     let mut at = 2;
-    let mut i = 0;
-    while i < n {
+    let mut passed = 0;
+    while passed < n {
         at = at + 2 + read16(body, at);
-        i += 1;
+        passed += 1;
     }
     at
 }

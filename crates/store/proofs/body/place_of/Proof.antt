@@ -9,10 +9,10 @@ use Rattle.store.proofs.body.place_of.Statement.{statement}
 use Rattle.store.proofs.body.place_of.Tie as tie
 
 abbrev Inv-loop : tie.InvT-loop
-Inv-loop body n at₀ i₀ at i = (at ≡ place body i) × (i ≤ n) × (at ≤ 2 + 65537 * i)
+Inv-loop body n at₀ passed₀ at passed = (at ≡ place body passed) × (passed ≤ n) × (at ≤ 2 + 65537 * passed)
 
 abbrev μ-loop : tie.MeasureT-loop
-μ-loop body n at₀ i₀ at i = n - i
+μ-loop body n at₀ passed₀ at passed = n - passed
 
 loop-holds : tie.Need-loop-holds Inv-loop μ-loop
 loop-holds c = (sym (place-zero _), omega arith, omega arith)
@@ -26,8 +26,8 @@ read16-requires c κs = search needs
 add-at-2 : tie.Need-add-at-2 Inv-loop μ-loop
 add-at-2 c = omega arith
 
-add-i : tie.Need-add-i Inv-loop μ-loop
-add-i c = omega arith
+add-passed : tie.Need-add-passed Inv-loop μ-loop
+add-passed c = omega arith
 
 loop-less : tie.Need-loop-less Inv-loop μ-loop
 loop-less c = omega arith
@@ -48,7 +48,7 @@ place-of-spec =
     add-at
     read16-requires
     add-at-2
-    add-i
+    add-passed
     loop-less
     loop-again
     returns)
