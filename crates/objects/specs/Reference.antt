@@ -1,0 +1,31 @@
+-- The data of FMM.
+use Prim.Native.Nat.{ℕ, _≤_}
+use mathlib.Core.Path.{_≡_}
+use mathlib.Core.List.{List}
+use lib.ListN.{length}
+use Rattle.objects.specs.Writing.{tlv}
+use Rattle.objects.specs.Form.{Form, done, plain}
+use Rattle.objects.specs.Places.{placeAt, answered, Placed}
+use Rattle.objects.specs.declared.reader.Reading.{Reading}
+use Rattle.objects.specs.declared.templates.Place.{Place}
+use Rattle.objects.specs.declared.templates.Reference.{Reference}
+use Rattle.objects.specs.declared.templates.Reference.the-variants.{Named, Refused}
+
+-- "`51` of 1 byte .. or 2"
+unfoldable pub referenceData : (file : List ℕ) → List ℕ
+referenceData file = tlv 0x51 file
+
+abbrev pub referenceForm : Form
+referenceForm = plain 0x51 1 2 done
+
+abbrev pub namedOf : Reading → Reference
+namedOf r = Named (placeAt r 0)
+
+unfoldable pub readReference : List ℕ → Reference
+readReference s = answered referenceForm s namedOf Refused
+
+-- s is the writing of this file reference, and p says where it stands
+pub record References (s : List ℕ) (p : Place) (file : List ℕ) : Type 0 where
+  pub written : s ≡ referenceData file
+  pub file-size : (1 ≤ length file) × (length file ≤ 2)
+  pub file-placed : Placed s (p .at) (p .len) file
