@@ -9,12 +9,12 @@ use native.Mathlib.Nat.{add-zero, add-suc, add-sub-of-le}
 use lib.ListN.{length, getD, length-append, List·getD-append, List·getD-eq-default}
 use lib.Seq.{getD-append-add}
 use lib.Dec.{leb}
-use borrow.Author.Tests.{lt-leb, le-leb, leb-true}
+use borrow.Author.Tests.{lt-ltb, le-ltb, lt-leb, le-leb, leb-true}
 use Rattle.base.specs.Choice.{every}
-use Rattle.base.specs.Bytes.{part}
+use Rattle.base.proofs.Parts.{part-past}
 use Rattle.base.proofs.Cases.{by-cases, held, all-held}
 use Rattle.store.specs.Little.{le16}
-use Rattle.store.specs.Body.{count, next, place, recordAt, firsts, records, nth, okAt, okTo, bodyOk}
+use Rattle.store.specs.Body.{count, next, behind, place, recordAt, firsts, records, nth, okAt, okTo, bodyOk}
 
 -- ---- a record at a place
 
@@ -170,13 +170,28 @@ records-at xs i h =
     let e : count xs ≡ suc (i + (count xs - suc i)) = omega arith in
     ap (λ (m : ℕ). getD (firsts xs m) i []) e ∙ firsts-grow xs i (count xs - suc i)
 
+-- past the end there is no record, and a walk stays
+pub recordAt-past : (xs : List ℕ) (p : ℕ) → length xs ≤ p → recordAt xs p ≡ []
+recordAt-past xs p h = part-past xs (p + 2) (le16 xs p) (omega arith)
+
+pub behind-past : (xs : List ℕ) (p : ℕ) → length xs ≤ p → behind xs p ≡ p
+unfolding behind
+behind-past xs p h = simp (le-ltb _ _ h)
+
+pub behind-next : (xs : List ℕ) (p : ℕ) → p < length xs → behind xs p ≡ next xs p
+unfolding behind
+behind-next xs p h = simp (lt-ltb _ _ h)
+
+pub behind-by : (xs : List ℕ) (p k : ℕ) → p < length xs → k ≡ le16 xs p → p + 2 + k ≡ behind xs p
+behind-by xs p k h e = ap (λ (m : ℕ). p + 2 + m) e ∙ sym (behind-next xs p h)
+
 -- record n by its place, and no record
-pub nth-at : (xs : List ℕ) (n at k : ℕ) → 1 ≤ n → n ≤ count xs → at ≡ place xs (n - 1) → k ≡ le16 xs at → part xs (at + 2) k ≡ nth (records xs) n
+pub nth-at : (xs : List ℕ) (n at : ℕ) → 1 ≤ n → n ≤ count xs → at ≡ place xs (n - 1) → recordAt xs at ≡ nth (records xs) n
 unfolding nth
-nth-at xs zero at k h i e l = absurd (omega arith)
-nth-at xs (suc n) at k h i e l =
+nth-at xs zero at h i e = absurd (omega arith)
+nth-at xs (suc n) at h i e =
     let z : suc n - 1 ≡ n = omega arith in
-    ap (part xs (at + 2)) l ∙ ap (recordAt xs) (e ∙ ap (place xs) z) ∙ sym (records-at xs n (omega arith))
+    ap (recordAt xs) (e ∙ ap (place xs) z) ∙ sym (records-at xs n (omega arith))
 
 pub nth-zero : (rs : List (List ℕ)) (n : ℕ) → n ≡ 0 → nth rs n ≡ []
 unfolding nth

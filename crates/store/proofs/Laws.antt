@@ -13,7 +13,7 @@ use Rattle.base.specs.Bytes.{part, splice}
 use Rattle.base.proofs.Cases.{held}
 use Rattle.base.proofs.Parts.{length-part}
 use Rattle.store.specs.Little.{le16}
-use Rattle.store.specs.Body.{count, place, recordAt, records, nth, used, fits, bodyOk, takes, appended, append}
+use Rattle.store.specs.Body.{count, behind, place, recordAt, records, nth, used, fits, bodyOk, takes, appended, append}
 use Rattle.store.specs.Biometrics.{state, written, room, content, bioOk, updated, update, activate}
 use Rattle.store.specs.Biometrics.{takes as takesAt}
 use Rattle.store.specs.Rules.{hasKey, ruleOf, isBiometrics, kindOk}
@@ -72,7 +72,7 @@ records-count = bodies.records-length
 
 -- record n stands where the lengths before it say, and is the nth of the list
 pub record-place : (xs : List ℕ) (n : ℕ) → 1 ≤ n → n ≤ count xs → nth (records xs) n ≡ recordAt xs (place xs (n - 1))
-record-place xs n h i = sym (bodies.nth-at xs n (place xs (n - 1)) (le16 xs (place xs (n - 1))) h i refl refl)
+record-place xs n h i = sym (bodies.nth-at xs n (place xs (n - 1)) h i refl)
 
 -- there is no record 0 and none above the count
 pub record-none : (xs : List ℕ) (n : ℕ) → count xs < n → nth (records xs) n ≡ []
@@ -92,6 +92,13 @@ module _ (L M : ℕ) (xs : List ℕ) (o : bodyOk L M xs ≡ true) where
 
   pub body-place : (n : ℕ) → n ≤ count xs → place xs n ≤ length xs
   body-place n h = bodies.bodyOk-place L M xs n o h
+
+  -- a walk: the first record stands at place 0, and behind each stands the next
+  pub walk-next : (n : ℕ) → n < count xs → behind xs (place xs n) ≡ place xs (n + 1)
+  walk-next n h =
+      let l = bodies.place-lt xs n (count xs) h in
+      let w : place xs (count xs) ≤ length xs = bodies.bodyOk-place L M xs (count xs) o (omega arith) in
+      bodies.behind-next xs (place xs n) (omega arith) ∙ sym (bodies.place-suc xs n)
 
   pub record-size : (n : ℕ) → 1 ≤ n → n ≤ count xs → (1 ≤ length (nth (records xs) n)) × (length (nth (records xs) n) ≤ L)
   record-size n h i =

@@ -19,6 +19,10 @@ count xs = le16 xs 0
 abbrev pub next : List ℕ → ℕ → ℕ
 next xs p = p + 2 + le16 xs p
 
+-- the same, as a walk has it: it stays where it is past the end
+unfoldable pub behind : List ℕ → ℕ → ℕ
+behind xs p = pick (ltb p (length xs)) (next xs p) p
+
 -- the place of the record behind the first n, which is where its length stands
 unfoldable pub place : List ℕ → ℕ → ℕ
 place xs zero = 2

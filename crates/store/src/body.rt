@@ -2,10 +2,10 @@
 use crate::little::read16;
 ghost use mathlib.Core.Path.{_≡_};
 ghost use mathlib.Core.Bool.{true};
-ghost use Prim.Native.Nat.{_+_, _≤_, _<_};
+ghost use Prim.Native.Nat.{_+_, _≤_, _<_, min};
 ghost use lib.ListN.{length};
 ghost use lib.Dec.{leb};
-ghost use Rattle.store.specs.Body.{count, place, used, records, nth, fits, okAt, bodyOk, takes, appended, append};
+ghost use Rattle.store.specs.Body.{count, place, behind, recordAt, used, records, nth, fits, okAt, bodyOk, takes, appended, append};
 
 // How many records.
 pub fn count(body: &[u8]) -> usize
@@ -35,6 +35,36 @@ pub fn used(body: &[u8]) -> usize
     place_of(body, count(body))
 }
 
+// The same for any n, which is cut at the most that a count can say: where a walk over the records begins.
+pub fn place(body: &[u8], n: usize) -> usize
+    ensures { λ r. ⌜ r ≡ place (now (body .entry)) (min n 65535) ⌝ }
+{
+    if 65535 < n {
+        return place_of(body, 65535);
+    }
+    place_of(body, n)
+}
+
+// The record whose length stands at `at`, as the part of the body that it is.
+pub fn record_at(body: &[u8], at: usize) -> &[u8]
+    ensures { λ r. ⌜ now r ≡ recordAt (now (body .entry)) at ⌝ }
+{
+    if body.len() <= at {
+        return base::part(body, 0, 0);
+    }
+    base::part(body, at + 2, read16(body, at))
+}
+
+// The place behind that record, where the next one stands; `at` itself past the body's end.
+pub fn behind(body: &[u8], at: usize) -> usize
+    ensures { λ r. ⌜ r ≡ behind (now (body .entry)) at ⌝ }
+{
+    if body.len() <= at {
+        return at;
+    }
+    at + 2 + read16(body, at)
+}
+
 // Record n, counted from 1, as the part of the body that it is; an empty part where there is none.
 pub fn record(body: &[u8], n: usize) -> &[u8]
     ensures { λ r. ⌜ now r ≡ nth (records (now (body .entry))) n ⌝ }
@@ -45,8 +75,7 @@ pub fn record(body: &[u8], n: usize) -> &[u8]
     if count(body) < n {
         return base::part(body, 0, 0);
     }
-    let at = place_of(body, n - 1);
-    base::part(body, at + 2, read16(body, at))
+    record_at(body, place_of(body, n - 1))
 }
 
 // Whether n bytes and their length fit behind the first `at` bytes.

@@ -28,17 +28,11 @@ sub-place-of c = search needs
 place-of-requires : tie.Need-place-of-requires
 place-of-requires c κs = search needs
 
-add-part : tie.Need-add-part
-add-part c = search needs
-
-read16-requires : tie.Need-read16-requires
-read16-requires c κs = search needs
-
-part-requires-3 : tie.Need-part-requires-3
-part-requires-3 c κs = search needs
+record-at-requires : tie.Need-record-at-requires
+record-at-requires c κs = search needs
 
 returns-3 : tie.Need-returns-3
-returns-3 c = c .part3 .ensures ∙ nth-at _ _ _ _ (omega arith) (omega arith) (c .before .before .place-of .ensures .0) (c .before .read16 .ensures .0)
+returns-3 c = c .record-at .ensures ∙ nth-at _ _ _ (omega arith) (omega arith) (c .before .place-of .ensures .0)
 
 pub record-spec : {M : Type 1} → statement M
 record-spec =
@@ -51,7 +45,5 @@ record-spec =
     returns-2
     sub-place-of
     place-of-requires
-    add-part
-    read16-requires
-    part-requires-3
+    record-at-requires
     returns-3)
