@@ -14,12 +14,12 @@ use Rattle.objects.specs.declared.head.Head.the-variants.{Body, NoTag, N
 
 -- an object lies within its part of n bytes, behind a head of k bytes at most
 abbrev pub HeadIn : ℕ → ℕ → Head → Type 0
-HeadIn k n (Body start len) = (1 ≤ start) × (start ≤ k) × (start + len ≤ n)
+HeadIn k n (Body start len) = (start ≤ k) × (start + len ≤ n)
 HeadIn k n NoTag = Unit {0}
 HeadIn k n NoLength = Unit {0}
 
-body-in : (s : List ℕ) (k least n : ℕ) → 1 ≤ k → k ≤ 3 → k ≤ length s → HeadIn 3 (length s) (bodyIn s k least n)
-body-in s k least n p q h =
+body-in : (s : List ℕ) (k least n : ℕ) → k ≤ 3 → k ≤ length s → HeadIn 3 (length s) (bodyIn s k least n)
+body-in s k least n q h =
     pick-ind (HeadIn 3 (length s)) (ltb n least) (λ e. tt)
     (λ e. pick-ind (HeadIn 3 (length s)) (leb n (length s - k)) (λ f. let g = leb-true n (length s - k) f in omega arith) (λ f. tt))
 
@@ -28,11 +28,11 @@ unfolding lengthOf
 length-in s =
     let P = HeadIn 3 (length s) in
     pick-ind P (ltb (length s) 1) (λ e. tt)
-    (λ e. pick-ind P (ltb (getD s 0 0) 128) (λ f. body-in s 1 0 (getD s 0 0) (lit≤ tt) (lit≤ tt) (ltb-false _ _ e))
+    (λ e. pick-ind P (ltb (getD s 0 0) 128) (λ f. body-in s 1 0 (getD s 0 0) (lit≤ tt) (ltb-false _ _ e))
     (λ f. pick-ind P (eqb (getD s 0 0) 129)
-    (λ g. pick-ind P (ltb (length s) 2) (λ h. tt) (λ h. body-in s 2 128 (getD s 1 0) (lit≤ tt) (lit≤ tt) (ltb-false _ _ h)))
+    (λ g. pick-ind P (ltb (length s) 2) (λ h. tt) (λ h. body-in s 2 128 (getD s 1 0) (lit≤ tt) (ltb-false _ _ h)))
     (λ g. pick-ind P (eqb (getD s 0 0) 130)
-    (λ i. pick-ind P (ltb (length s) 3) (λ h. tt) (λ h. body-in s 3 256 (getD s 1 0 * 256 + getD s 2 0) (lit≤ tt) (lit≤ tt) (ltb-false _ _ h)))
+    (λ i. pick-ind P (ltb (length s) 3) (λ h. tt) (λ h. body-in s 3 256 (getD s 1 0 * 256 + getD s 2 0) (lit≤ tt) (ltb-false _ _ h)))
     (λ i. tt))))
 
 -- a length field that the code has found behind k bytes
@@ -40,7 +40,7 @@ pub length-past : (s : List ℕ) (k : ℕ) {h h′ : Head} → h ≡ lengthOf (t
 length-past s k p q = ap (pastBy k) (sym q ∙ p ∙ ap lengthOf (rest k s))
 
 pub length-small : (s : List ℕ) {h : Head} {start len : ℕ} → h ≡ lengthOf s → h ≡ Body start len → start ≤ 3
-length-small s {h} {start} {len} p q = let i : HeadIn 3 (length s) (Body start len) = subst (HeadIn 3 (length s)) (sym p ∙ q) (length-in s) in i .1
+length-small s {h} {start} {len} p q = let i : HeadIn 3 (length s) (Body start len) = subst (HeadIn 3 (length s)) (sym p ∙ q) (length-in s) in i .0
 
 past-in : (k n : ℕ) (h : Head) → k ≤ 2 → k ≤ n → HeadIn 3 (n - k) h → HeadIn 5 n (pastBy k h)
 past-in k n (Body start len) q p i = omega arith

@@ -47,7 +47,7 @@ noted-within n r start len h w =
 -- by the head of the next object, which lies within the part
 on-head-within : (n m : ℕ) (h : Head) (go : ℕ → ℕ → Reading) (none bad : Reading) → HeadIn 5 m h
     → ((start len : ℕ) → start + len ≤ m → Within n (go start len)) → Within n none → Within n bad → Within n (onHead h go none bad)
-on-head-within n m (Body start len) go none bad i g p q = g start len (i .2)
+on-head-within n m (Body start len) go none bad i g p q = g start len (i .1)
 on-head-within n m NoTag go none bad i g p q = p
 on-head-within n m NoLength go none bad i g p q = q
 

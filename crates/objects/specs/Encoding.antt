@@ -25,6 +25,7 @@ Values (plain t lo hi f) = List ℕ × Values f
 Values (maybe t lo hi f) = Perhaps × Values f
 Values (nested t g f) = Values g × Values f
 
+-- the object of a value that may be absent
 unfoldable pub perhaps : ℕ → Perhaps → List ℕ
 perhaps t absent = []
 perhaps t (present a) = tlv t a
@@ -36,6 +37,7 @@ encode (plain t lo hi f) v = tlv t (v .0) ++ encode f (v .1)
 encode (maybe t lo hi f) v = perhaps t (v .0) ++ encode f (v .1)
 encode (nested t g f) v = tlv t (encode g (v .0)) ++ encode f (v .1)
 
+-- lo to hi bytes, or absent
 abbrev pub SizedP : ℕ → ℕ → Perhaps → Type 0
 SizedP lo hi absent = Unit {0}
 SizedP lo hi (present a) = (lo ≤ length a) × (length a ≤ hi)
@@ -47,11 +49,12 @@ Sized (plain t lo hi f) v = (lo ≤ length (v .0)) × (length (v .0) ≤ hi) × 
 Sized (maybe t lo hi f) v = SizedP lo hi (v .0) × Sized f (v .1)
 Sized (nested t g f) v = Sized g (v .0) × Sized f (v .1)
 
--- the plain values in order; one that is absent counts as empty
+-- a value that is absent counts as empty
 abbrev pub valueOf : Perhaps → List ℕ
 valueOf absent = []
 valueOf (present a) = a
 
+-- the plain values in order
 unfoldable pub leaves : (f : Form) → Values f → List (List ℕ)
 leaves done v = []
 leaves (plain t lo hi f) v = v .0 ∷ leaves f (v .1)

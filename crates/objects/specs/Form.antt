@@ -41,11 +41,13 @@ formIn (suc k) rows =
     let b = nested (col rows 0) (formIn k (take (cutOf rows - 1) (drop 1 rows))) (formIn k (drop (cutOf rows) rows)) in
     pick (ltb (length rows) 1) done (pick (eqb (col rows 1) 0) (pick (eqb (col rows 2) 0) o a) b)
 
+-- the form that rows say
 unfoldable pub formOf : List (List ℕ) → Form
 formOf rows = formIn (length rows) rows
 
 -- ---- a reading
 
+-- no fault
 abbrev pub isClean : Fault → Bool
 isClean Clean = true
 isClean Tag = false
@@ -116,11 +118,13 @@ kindOf rows start len =
 abbrev pub missingOf : List (List ℕ) → Step
 missingOf rows = pick (eqb (col rows 1) 0) (pick (eqb (col rows 2) 0) Absent (Bad Tag)) (Bad Tag)
 
+-- what the head found makes of the first row
 abbrev pub stepAt : Head → List (List ℕ) → Step
 stepAt (Body start len) rows = kindOf rows start len
 stepAt NoTag rows = missingOf rows
 stepAt NoLength rows = Bad Length
 
+-- what stands first in s: "none extra" where no row is left, nothing deeper than the depth, else by the first row's tag
 unfoldable pub firstOf : List (List ℕ) → ℕ → List ℕ → Step
 firstOf rows d s =
     pick (ltb (length rows) 1)

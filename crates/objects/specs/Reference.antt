@@ -15,12 +15,15 @@ use Rattle.objects.specs.declared.templates.Reference.the-variants.{Name
 unfoldable pub referenceData : (file : List ℕ) → List ℕ
 referenceData file = tlv 0x51 file
 
+-- the same as a form
 abbrev pub referenceForm : Form
 referenceForm = plain 0x51 1 2 done
 
+-- where its value stands
 abbrev pub namedOf : Reading → Reference
 namedOf r = Named (placeAt r 0)
 
+-- what is answered for data; "other than stated is 6A80"
 unfoldable pub readReference : List ℕ → Reference
 readReference s = answered referenceForm s namedOf Refused
 

@@ -41,7 +41,7 @@ searchForm =
     done)))
     done
 
--- "30 lists only the first"
+-- what its five values ask for; "30 lists only the first"
 abbrev pub searchOf : List ℕ → Reading → Search
 searchOf s r = record {
   file = placeAt r 0;
@@ -51,10 +51,11 @@ searchOf s r = record {
   text = placeAt r 4;
 }
 
--- the mode is 00 or 30
+-- the mode is "00 or 30"
 abbrev pub askOf : List ℕ → Reading → Query
 askOf s r = pick (eqb (numberAt s r 1) 0) (Ask (searchOf s r)) (pick (eqb (numberAt s r 1) 0x30) (Ask (searchOf s r)) Refused)
 
+-- what is answered for data; "an object's length or fixed value other than stated is 6A80"
 unfoldable pub readSearch : List ℕ → Query
 readSearch s = answered searchForm s (askOf s) Refused
 

@@ -16,12 +16,15 @@ use Rattle.objects.specs.declared.templates.Update.the-variants.{Write, 
 unfoldable pub updateData : (offset bytes : List ℕ) → List ℕ
 updateData offset bytes = tlv 0x54 offset ++ tlv 0x53 bytes
 
+-- the same as a form
 abbrev pub updateForm : Form
 updateForm = plain 0x54 1 2 (plain 0x53 0 65535 done)
 
+-- what its two values ask for
 abbrev pub writeOf : List ℕ → Reading → Update
 writeOf s r = Write (record { offset = numberAt s r 0; bytes = placeAt r 1 })
 
+-- what is answered for data; "other than stated is 6A80"
 unfoldable pub readUpdate : List ℕ → Update
 readUpdate s = answered updateForm s (writeOf s) Refused
 

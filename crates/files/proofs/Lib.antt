@@ -1,0 +1,3 @@
+-- Laws of the files of a card.
+pub mod Entries
+pub mod Contents

@@ -1,0 +1,3 @@
+-- The files of a card: what the contracts cite.
+pub mod Master
+pub mod Files
