@@ -1,0 +1,45 @@
+-- `rights::effective` meets its contract.
+use borrow.Author.Tests.{eq-eqb, ne-eqb}
+use Rattle.rights.specs.Chain.{certificate, noRights, effective}
+use borrow.Author.Needs.{needs}
+use Rattle.rights.proofs.effective.Statement.{statement}
+use Rattle.rights.proofs.effective.Tie as tie
+
+returns : tie.Need-returns
+unfolding effective noRights
+returns c = simp (ne-eqb _ _ (c .if1 .taken))
+
+certificate-requires : tie.Need-certificate-requires
+certificate-requires c κs = search needs
+
+certificate-requires-2 : tie.Need-certificate-requires-2
+certificate-requires-2 c κs = search needs
+
+certificate-requires-3 : tie.Need-certificate-requires-3
+certificate-requires-3 c κs = search needs
+
+join-requires : tie.Need-join-requires
+join-requires c κs = search needs
+
+join-requires-2 : tie.Need-join-requires-2
+join-requires-2 c κs = search needs
+
+clear-requires : tie.Need-clear-requires
+clear-requires c κs = search needs
+
+returns-2 : tie.Need-returns-2
+unfolding effective
+returns-2 c = simp (eq-eqb _ _ (c .before .before .before .before .before .before .if1 .left), c .clear .ensures, c .before .join2 .ensures, c .before .before .join .ensures, c .before .before .before .certificate3 .ensures, c .before .before .before .before .certificate2 .ensures, c .before .before .before .before .before .certificate .ensures)
+
+pub effective-spec : {M : Type 1} → statement M
+effective-spec =
+    tie.close
+    (tie.spec
+    returns
+    certificate-requires
+    certificate-requires-2
+    certificate-requires-3
+    join-requires
+    join-requires-2
+    clear-requires
+    returns-2)

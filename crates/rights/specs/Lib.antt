@@ -1,0 +1,3 @@
+-- What the contracts of the rights cite.
+pub mod Rights
+pub mod Chain

@@ -1,0 +1,15 @@
+-- `session::open` meets its contract.
+use borrow.Author.Needs.{needs}
+use Rattle.session.specs.Session.{opened}
+use Rattle.session.proofs.open.Statement.{statement}
+use Rattle.session.proofs.open.Tie as tie
+
+effective-requires : tie.Need-effective-requires
+effective-requires c κs = search needs
+
+returns : tie.Need-returns
+unfolding opened
+returns c = rw (c .effective .ensures)
+
+pub open-spec : {M : Type 1} → statement M
+open-spec = tie.close (tie.spec effective-requires returns)
