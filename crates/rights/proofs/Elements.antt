@@ -66,6 +66,7 @@ module _ (a b : Rights) where
   unfolding same every
   other-visa h = simp (ne-eqb _ _ h, and-false)
 
-  pub same-rest : a .flags ≡ b .flags → a .travel ≡ b .travel → a .visa ≡ b .visa → same a b ≡ sameBytes (a .biometrics) (b .biometrics)
+  pub same-rest : a .flags ≡ b .flags → a .travel ≡ b .travel → a .visa ≡ b .visa
+      → same a b ≡ sameBytes (a .biometrics) (b .biometrics)
   unfolding same every
   same-rest f t v = simp (eq-eqb _ _ f, eq-eqb _ _ t, eq-eqb _ _ v, and-true)

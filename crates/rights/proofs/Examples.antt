@@ -5,8 +5,7 @@ use mathlib.Core.Bool.{true, false}
 use mathlib.Core.List.{List, [], _∷_, _++_}
 use lib.ListN.{replicate, set}
 use Rattle.base.specs.Choice.{every}
-use Rattle.rights.specs.declared.Rights.{Rights}
-use Rattle.rights.specs.Rights.{bit, flagged, biometricsByte, recordBit, biometricsBit, mayRecords, mayBiometrics}
+use Rattle.rights.specs.Rights.{bit, flagged, biometricsByte, biometricsBit, mayBiometrics}
 use Rattle.rights.specs.Chain.{certificate, joinedBytes, joined, clearedBytes, cleared, noRights, effective}
 
 -- "all rights": three certificates with every bit set, of which RFU and ignored bits are cleared

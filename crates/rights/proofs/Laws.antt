@@ -1,5 +1,5 @@
 -- Laws of the rights: what is cleared, and what rights without a flag are not.
-use Prim.Native.Nat.{ℕ, zero, suc, _+_, _-_, _*_, _/_, _%_, _^_, _≤_}
+use Prim.Native.Nat.{ℕ, zero, suc, _+_, _-_, _/_, _%_, _≤_}
 use mathlib.Core.Path.{_≡_, refl, sym, ap, ap₂, _∙_}
 use mathlib.Core.Bool.{Bool, true, false, and-true, and-false}
 use mathlib.Core.List.{List, [], _∷_}
@@ -7,12 +7,12 @@ use native.Mathlib.Omega.{arith}
 use native.Mathlib.Nat.{zero-div}
 use lib.ListN.{length, getD, set, replicate}
 use lib.Dec.{eqb}
-use borrow.Author.Tests.{le-leb, eqb-true}
+use borrow.Author.Tests.{le-leb, ne-eqb, eqb-true}
 use Rattle.base.specs.Choice.{pick, every}
 use Rattle.base.proofs.Cases.{pick-ind, and-left, and-right, false-true, held}
 use Rattle.rights.specs.declared.Rights.{Rights}
 use Rattle.rights.specs.Rights.{bit, flagged, biometricsByte, mayRecords, mayBiometrics}
-use Rattle.rights.specs.Chain.{certificate, joined, clearedBytes, cleared, noRights, effective, sameBytes, same, isCleared}
+use Rattle.rights.specs.Chain.{certificate, joinedBytes, joined, clearedBytes, cleared, noRights, effective, sameBytes, same, isCleared}
 use Rattle.rights.proofs.Elements.{same-refl, same-rest}
 
 -- ---- the same
@@ -73,9 +73,15 @@ cleared-cleared r =
     let m : f % 8 % 8 ≡ f % 8 = omega arith in
     λ i. record {
       flags = m i;
-      travel = (ap (λ (t : Bool). pick t (pick (bit f 1) (r .travel % 16) 0 % 16) 0) (flag-1 f) ∙ byte-twice (bit f 1) (r .travel)) i;
-      visa = (ap (λ (t : Bool). pick t (pick (bit f 2) (r .visa % 16) 0 % 16) 0) (flag-2 f) ∙ byte-twice (bit f 2) (r .visa)) i;
-      biometrics = (ap (λ (t : Bool). clearedBytes t (clearedBytes (bit f 3) (r .biometrics))) (flag-3 f) ∙ bytes-twice (bit f 3) (r .biometrics)) i;
+      travel =
+          (ap (λ (t : Bool). pick t (pick (bit f 1) (r .travel % 16) 0 % 16) 0) (flag-1 f)
+          ∙ byte-twice (bit f 1) (r .travel)) i;
+      visa =
+          (ap (λ (t : Bool). pick t (pick (bit f 2) (r .visa % 16) 0 % 16) 0) (flag-2 f)
+          ∙ byte-twice (bit f 2) (r .visa)) i;
+      biometrics =
+          (ap (λ (t : Bool). clearedBytes t (clearedBytes (bit f 3) (r .biometrics))) (flag-3 f)
+          ∙ bytes-twice (bit f 3) (r .biometrics)) i;
     }
 
 pub is-cleared : (r : Rights) → isCleared (cleared r) ≡ true
@@ -96,6 +102,11 @@ effective-cleared c =
     pick-ind (λ (r : Rights). isCleared r ≡ true) (eqb (length c) 60)
     (λ e. is-cleared (joined (joined (certificate c 0) (certificate c 1)) (certificate c 2)))
     (λ e. none-cleared)
+
+-- "rights not 60 bytes": those "that 60 zero bytes open"
+pub not-sixty : (c : List ℕ) → (length c ≡ 60 → ⊥) → effective c ≡ effective (replicate 60 0)
+unfolding effective certificate joined joinedBytes cleared clearedBytes noRights bit
+not-sixty c h = simp (ne-eqb (length c) 60 h)
 
 -- ---- cleared rights without the flag of an application have none of its rights
 
@@ -124,7 +135,8 @@ module _ (r : Rights) (e : isCleared r ≡ true) where
   no-byte : (k : ℕ) → bit (r .flags) 3 ≡ false → biometricsByte r k ≡ 0
   unfolding cleared clearedBytes biometricsByte
   no-byte k f =
-      ap (λ (x : List ℕ). getD x (k - 1) 0) (sym (ap (λ (s : Rights). s .biometrics) (cleared-is r e)) ∙ ap (λ (t : Bool). clearedBytes t (r .biometrics)) f)
+      ap (λ (x : List ℕ). getD x (k - 1) 0)
+      (sym (ap (λ (s : Rights). s .biometrics) (cleared-is r e)) ∙ ap (λ (t : Bool). clearedBytes t (r .biometrics)) f)
       ∙ all-alike 17 (k - 1) 0
 
   pub unflagged-records : (a : ℕ) (certificates append : Bool) → flagged r a ≡ false → mayRecords r a certificates append ≡ false

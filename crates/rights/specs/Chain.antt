@@ -70,7 +70,12 @@ sameBytes (x ∷ xs) (y ∷ ys) = eqb x y && sameBytes xs ys
 
 unfoldable pub same : Rights → Rights → Bool
 same a b =
-    every (eqb (a .flags) (b .flags) ∷ eqb (a .travel) (b .travel) ∷ eqb (a .visa) (b .visa) ∷ sameBytes (a .biometrics) (b .biometrics) ∷ [])
+    every
+    (eqb (a .flags) (b .flags)
+    ∷ eqb (a .travel) (b .travel)
+    ∷ eqb (a .visa) (b .visa)
+    ∷ sameBytes (a .biometrics) (b .biometrics)
+    ∷ [])
 
 -- "in cleared form"
 unfoldable pub isCleared : Rights → Bool

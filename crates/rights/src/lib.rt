@@ -1,19 +1,19 @@
 // The rights of a certificate chain (document 01, "Rights"): how three certificates are joined into cleared form, and what a session
 // with the rights may do. It knows nothing of files, commands or sessions.
 ghost use mathlib.Core.Path.{_≡_};
-ghost use mathlib.Core.Bool.{Bool, true, false};
+ghost use mathlib.Core.Bool.{true, false};
 ghost use Prim.Native.Nat.{_+_, _-_, _*_, _≤_, _<_, _%_};
 ghost use lib.ListN.{length, getD};
 ghost use Rattle.base.specs.Choice.{pick};
 ghost use Rattle.base.specs.Bytes.{part};
-ghost use Rattle.rights.specs.Rights.{bit, flagged, recordBit, mayRecords, biometricsByte, biometricsBit, mayBiometrics};
-ghost use Rattle.rights.specs.Chain.{certificate, joinedBytes, joined, clearedBytes, cleared, noRights, effective, sameBytes, same, isCleared};
+ghost use Rattle.rights.specs.Rights.{bit, flagged, recordBit, mayRecords, mayBiometrics};
+ghost use Rattle.rights.specs.Chain.{certificate, joinedBytes, joined, clearedBytes, cleared, effective, sameBytes, same, isCleared};
 
-pub const TRAVEL: usize = 1;
+const TRAVEL: usize = 1;
 
-pub const VISA: usize = 2;
+const VISA: usize = 2;
 
-pub const BIOMETRICS: usize = 3;
+const BIOMETRICS: usize = 3;
 
 pub struct Rights {
     pub flags: u8,
@@ -190,7 +190,7 @@ pub fn flag(r: Rights, application: usize) -> bool
 
 // Which bit of the travel or visa byte serves reading or appending records, or certificates.
 fn record_bit(certificates: bool, append: bool) -> usize
-    ensures { λ b. ⌜ (b ≡ recordBit certificates append) × ((1 ≤ b) × (b ≤ 8)) ⌝ }
+    ensures { λ b. ⌜ (b ≡ recordBit certificates append) × (1 ≤ b) × (b ≤ 8) ⌝ }
 {
     if certificates {
         if append {

@@ -208,7 +208,7 @@ pub fn refuse(image: &[u8], s: Session, n: usize) -> Refusal
 
 // ---- steps 7 to 9
 
-fn is_records(f: File) -> bool
+pub fn is_records(f: File) -> bool
     ensures { λ r. ⌜ r ≡ isRecords f ⌝ }
 {
     match f {

@@ -1,6 +1,6 @@
 -- What the layers above rely on, and all that they cite of the store's proofs. Of a body alone first, then of an image by its files.
 use Prim.Native.Nat.{ℕ, zero, suc, _+_, _-_, _≤_, _<_, max}
-use mathlib.Core.Path.{_≡_, refl, sym, ap, _∙_}
+use mathlib.Core.Path.{_≡_, refl, sym, ap, ap₂, _∙_}
 use mathlib.Core.Bool.{true, false}
 use mathlib.Core.List.{List, [], _∷_, _++_}
 use mathlib.Core.Logic.{_⊎_}
@@ -13,7 +13,7 @@ use Rattle.base.specs.Bytes.{part, splice}
 use Rattle.base.proofs.Cases.{held}
 use Rattle.base.proofs.Parts.{length-part}
 use Rattle.store.specs.Little.{le16}
-use Rattle.store.specs.Body.{count, behind, place, recordAt, records, nth, used, fits, bodyOk, takes, appended, append}
+use Rattle.store.specs.Body.{count, behind, walkAt, walkTo, walked, firsts, place, recordAt, records, nth, used, fits, bodyOk, takes, appended, append}
 use Rattle.store.specs.Biometrics.{state, written, room, content, bioOk, updated, update, activate}
 use Rattle.store.specs.Biometrics.{takes as takesAt}
 use Rattle.store.specs.Rules.{hasKey, ruleOf, isBiometrics, kindOk}
@@ -99,6 +99,22 @@ module _ (L M : ℕ) (xs : List ℕ) (o : bodyOk L M xs ≡ true) where
       let l = bodies.place-lt xs n (count xs) h in
       let w : place xs (count xs) ≤ length xs = bodies.bodyOk-place L M xs (count xs) o (omega arith) in
       bodies.behind-next xs (place xs n) (omega arith) ∙ sym (bodies.place-suc xs n)
+
+  walk-place : (n : ℕ) → n ≤ count xs → walkAt xs n ≡ place xs n
+  unfolding walkAt place
+  walk-place zero h = refl
+  walk-place (suc n) h =
+      ap (behind xs) (walk-place n (omega arith)) ∙ walk-next n h ∙ bodies.place-suc xs n
+
+  walk-to : (n : ℕ) → n ≤ count xs → walkTo xs n ≡ firsts xs n
+  unfolding walkTo firsts
+  walk-to zero h = refl
+  walk-to (suc n) h =
+      ap₂ (λ (l : List (List ℕ)) (p : ℕ). l ++ (recordAt xs p ∷ [])) (walk-to n (omega arith)) (walk-place n (omega arith))
+
+  pub walked-records : walked xs ≡ records xs
+  unfolding walked records
+  walked-records = walk-to (count xs) (omega arith)
 
   pub record-size : (n : ℕ) → 1 ≤ n → n ≤ count xs → (1 ≤ length (nth (records xs) n)) × (length (nth (records xs) n) ≤ L)
   record-size n h i =

@@ -46,6 +46,18 @@ unfoldable pub nth : List (List ℕ) → ℕ → List ℕ
 nth rs zero = []
 nth rs (suc n) = getD rs n []
 
+-- the records as a walk meets them, from the first place on and each behind the one before; in a well-formed body they are the records
+unfoldable pub walkAt : List ℕ → ℕ → ℕ
+walkAt xs zero = 2
+walkAt xs (suc n) = behind xs (walkAt xs n)
+
+unfoldable pub walkTo : List ℕ → ℕ → List (List ℕ)
+walkTo xs zero = []
+walkTo xs (suc n) = walkTo xs n ++ (recordAt xs (walkAt xs n) ∷ [])
+
+unfoldable pub walked : List ℕ → List (List ℕ)
+walked xs = walkTo xs (count xs)
+
 -- "used = 2 + the sum of (2 + length)": the first free byte
 unfoldable pub used : List ℕ → ℕ
 used xs = place xs (count xs)

@@ -1,5 +1,4 @@
 -- `rights::clear` meets its contract.
-use Rattle.rights.specs.Rights.{bit}
 use Rattle.rights.specs.Chain.{cleared}
 use borrow.Author.Needs.{needs}
 use Rattle.rights.proofs.clear.Statement.{statement}
@@ -25,7 +24,15 @@ clear-bytes-requires c κs = search needs
 
 returns : tie.Need-returns
 unfolding cleared
-returns c = simp (c .clear-bytes .ensures, c .before .bit3 .ensures, c .before .before .under2 .ensures, c .before .before .before .before .bit2 .ensures, c .before .before .before .before .before .under .ensures, c .before .before .before .before .before .before .before .bit .ensures)
+returns c =
+    simp (
+      c .clear-bytes .ensures,
+      c .before .bit3 .ensures,
+      c .before .before .under2 .ensures,
+      c .before .before .before .before .bit2 .ensures,
+      c .before .before .before .before .before .under .ensures,
+      c .before .before .before .before .before .before .before .bit .ensures,
+    )
 
 pub clear-spec : {M : Type 1} → statement M
 clear-spec =

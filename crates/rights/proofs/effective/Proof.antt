@@ -1,6 +1,6 @@
 -- `rights::effective` meets its contract.
 use borrow.Author.Tests.{eq-eqb, ne-eqb}
-use Rattle.rights.specs.Chain.{certificate, noRights, effective}
+use Rattle.rights.specs.Chain.{noRights, effective}
 use borrow.Author.Needs.{needs}
 use Rattle.rights.proofs.effective.Statement.{statement}
 use Rattle.rights.proofs.effective.Tie as tie
@@ -29,7 +29,16 @@ clear-requires c κs = search needs
 
 returns-2 : tie.Need-returns-2
 unfolding effective
-returns-2 c = simp (eq-eqb _ _ (c .before .before .before .before .before .before .if1 .left), c .clear .ensures, c .before .join2 .ensures, c .before .before .join .ensures, c .before .before .before .certificate3 .ensures, c .before .before .before .before .certificate2 .ensures, c .before .before .before .before .before .certificate .ensures)
+returns-2 c =
+    simp (
+      eq-eqb _ _ (c .before .before .before .before .before .before .if1 .left),
+      c .clear .ensures,
+      c .before .join2 .ensures,
+      c .before .before .join .ensures,
+      c .before .before .before .certificate3 .ensures,
+      c .before .before .before .before .certificate2 .ensures,
+      c .before .before .before .before .before .certificate .ensures,
+    )
 
 pub effective-spec : {M : Type 1} → statement M
 effective-spec =

@@ -1,5 +1,5 @@
 -- `rights::is_cleared` meets its contract.
-use Rattle.rights.specs.Chain.{same, isCleared}
+use Rattle.rights.specs.Chain.{isCleared}
 use borrow.Author.Needs.{needs}
 use Rattle.rights.proofs.is_cleared.Statement.{statement}
 use Rattle.rights.proofs.is_cleared.Tie as tie

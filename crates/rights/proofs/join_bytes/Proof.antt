@@ -35,7 +35,11 @@ loop-less : tie.Need-loop-less Inv-loop μ-loop
 loop-less c = omega arith
 
 loop-again : tie.Need-loop-again Inv-loop μ-loop
-loop-again c = (simp length-set (omega arith), omega arith, fills _ (c .before .loop .z) (c .before .loop .i) (omega arith) (c .before .loop .inv .2))
+loop-again c = (
+  simp length-set (omega arith),
+  omega arith,
+  fills _ (c .before .loop .z) (c .before .loop .i) (omega arith) (c .before .loop .inv .2),
+)
 
 returns : tie.Need-returns Inv-loop μ-loop
 returns c =
@@ -43,7 +47,9 @@ returns c =
     let y : List ℕ = c .before .before .args .t2 in
     let hx : length x ≡ 17 = omega (arith, c .before .before .good) in
     let hy : length y ≡ 17 = omega (arith, c .before .before .good) in
-    filled _ (c .before .loop .z) (joinedBytes x y) (omega (arith, length-joined x y (omega arith))) (λ j h. c .before .loop .inv .2 j (omega arith)) (λ j h. getD-joined x y j)
+    filled _ (c .before .loop .z) (joinedBytes x y) (omega (arith, length-joined x y (omega arith)))
+    (λ j h. c .before .loop .inv .2 j (omega arith))
+    (λ j h. getD-joined x y j)
 
 pub join-bytes-spec : {M : Type 1} → statement M
 join-bytes-spec =

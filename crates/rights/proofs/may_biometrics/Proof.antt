@@ -1,19 +1,17 @@
 -- `rights::may_biometrics` meets its contract.
-use mathlib.Core.Bool.{and-true, and-false}
-use borrow.Author.Tests.{le-leb, lt-leb}
-use Rattle.base.specs.Choice.{every}
-use Rattle.rights.specs.Rights.{bit, biometricsByte, biometricsBit, mayBiometrics}
+use mathlib.Core.Path.{_∙_}
+use native.Mathlib.Omega.{arith}
+use Rattle.rights.specs.Rights.{biometricsBit}
+use Rattle.rights.proofs.Answers.{file-low, file-high, file-is}
 use borrow.Author.Needs.{needs}
 use Rattle.rights.proofs.may_biometrics.Statement.{statement}
 use Rattle.rights.proofs.may_biometrics.Tie as tie
 
 returns : tie.Need-returns
-unfolding mayBiometrics every
-returns c = simp (lt-leb _ _ (c .if1 .taken))
+returns c = file-low _ _ _ (c .if1 .taken)
 
 returns-2 : tie.Need-returns-2
-unfolding mayBiometrics every
-returns-2 c = simp (lt-leb _ _ (c .if2 .taken), and-false)
+returns-2 c = file-high _ _ _ (c .if2 .taken)
 
 add-biometrics-byte : tie.Need-add-biometrics-byte
 add-biometrics-byte c = search needs
@@ -31,8 +29,10 @@ bit-requires : tie.Need-bit-requires
 bit-requires c κs = search needs
 
 returns-3 : tie.Need-returns-3
-unfolding mayBiometrics biometricsByte biometricsBit every
-returns-3 c = simp (le-leb _ _ (c .before .before .before .before .before .if1 .left), le-leb _ _ (c .before .before .before .before .if2 .left), and-true, c .before .if3 .taken, c .bit .ensures, c .before .before .biometrics-byte .ensures)
+unfolding biometricsBit
+returns-3 c =
+    c .bit .ensures
+    ∙ file-is _ _ _ _ _ (omega arith) (omega arith) (c .before .before .biometrics-byte .ensures) (simp (c .before .if3 .taken))
 
 mul-bit-2 : tie.Need-mul-bit-2
 mul-bit-2 c = search needs
@@ -44,8 +44,10 @@ bit-requires-2 : tie.Need-bit-requires-2
 bit-requires-2 c κs = search needs
 
 returns-4 : tie.Need-returns-4
-unfolding mayBiometrics biometricsByte biometricsBit every
-returns-4 c = simp (le-leb _ _ (c .before .before .before .before .before .if1 .left), le-leb _ _ (c .before .before .before .before .if2 .left), and-true, c .before .if3 .left, c .bit2 .ensures, c .before .before .biometrics-byte .ensures)
+unfolding biometricsBit
+returns-4 c =
+    c .bit2 .ensures
+    ∙ file-is _ _ _ _ _ (omega arith) (omega arith) (c .before .before .biometrics-byte .ensures) (simp (c .before .if3 .left))
 
 pub may-biometrics-spec : {M : Type 1} → statement M
 may-biometrics-spec =

@@ -1,5 +1,6 @@
 -- `rights::same` meets its contract.
 use mathlib.Core.Path.{sym, _∙_}
+use native.Mathlib.Omega.{arith}
 use Rattle.rights.proofs.Elements.{other-flags, other-travel, other-visa, same-rest}
 use borrow.Author.Needs.{needs}
 use Rattle.rights.proofs.same.Statement.{statement}
@@ -18,7 +19,7 @@ same-bytes-requires : tie.Need-same-bytes-requires
 same-bytes-requires c κs = search needs
 
 returns-4 : tie.Need-returns-4
-returns-4 c = c .same-bytes .ensures ∙ sym (same-rest _ _ (c .before .before .before .before .before .before .before .if1 .left) (c .before .before .before .before .if2 .left) (c .before .if3 .left))
+returns-4 c = c .same-bytes .ensures ∙ sym (same-rest _ _ (omega arith) (omega arith) (omega arith))
 
 pub same-spec : {M : Type 1} → statement M
 same-spec = tie.close (tie.spec returns returns-2 returns-3 same-bytes-requires returns-4)

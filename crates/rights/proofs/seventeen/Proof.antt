@@ -34,7 +34,11 @@ loop-less : tie.Need-loop-less Inv-loop μ-loop
 loop-less c = omega arith
 
 loop-again : tie.Need-loop-again Inv-loop μ-loop
-loop-again c = (simp length-set (omega arith), omega arith, fills _ (c .before .before .loop .z) (c .before .before .loop .i) (omega arith) (c .before .before .loop .inv .2))
+loop-again c = (
+  simp length-set (omega arith),
+  omega arith,
+  fills _ (c .before .before .loop .z) (c .before .before .loop .i) (omega arith) (c .before .before .loop .inv .2),
+)
 
 returns : tie.Need-returns Inv-loop μ-loop
 returns c =

@@ -1,0 +1,2 @@
+-- What the contracts of command bytes cite.
+pub mod Shape

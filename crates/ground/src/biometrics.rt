@@ -1,0 +1,35 @@
+// Cases of store::biometrics.
+use crate::say;
+
+// State, written length, room and content, and whether the body is well formed.
+fn read(body: &[u8]) {
+    say::word(b"biometrics.read");
+    say::number(store::biometrics::state(body));
+    say::number(store::biometrics::written(body));
+    say::number(store::biometrics::room(body));
+    say::bytes(store::biometrics::content(body));
+    say::flag(store::biometrics::well_formed(body));
+}
+
+fn update(body: &mut [u8], offset: usize, written: &[u8]) {
+    say::word(b"biometrics.update");
+    say::flag(store::biometrics::update(body, offset, written));
+    say::bytes(body);
+}
+
+fn activate(body: &mut [u8]) {
+    say::word(b"biometrics.activate");
+    say::flag(store::biometrics::activate(body));
+    say::bytes(body);
+}
+
+// Answers a case; whether it is one of these.
+pub fn answer(op: usize, x: usize, a: &mut [u8], b: &[u8]) -> bool {
+    match op {
+        30 => read(a),
+        31 => update(a, x, b),
+        32 => activate(a),
+        _ => return false,
+    }
+    true
+}

@@ -1,0 +1,58 @@
+// Cases of store::rules.
+use crate::say;
+use store::rules::Key;
+use store::rules::Ruled;
+use store::rules::look;
+use store::rules::row;
+
+fn rule(found: Ruled) {
+    match found {
+        Ruled::Is(r) => {
+            say::number(r.kind);
+            say::number(r.application);
+            say::number(r.id);
+            say::number(r.short);
+            say::number(r.longest);
+            say::number(r.most);
+        }
+        Ruled::Nothing => say::word(b" none"),
+    }
+}
+
+fn by_kind(kind: usize) {
+    say::word(b"rules.kind");
+    rule(look(Key::Kind(kind)));
+}
+
+fn by_id(application: usize, id: usize) {
+    say::word(b"rules.id");
+    rule(look(Key::Id(application, id)));
+}
+
+fn by_short(application: usize, short: usize) {
+    say::word(b"rules.short");
+    rule(look(Key::Short(application, short)));
+}
+
+fn by_place(i: usize) {
+    say::word(b"rules.row");
+    rule(row(i));
+}
+
+fn kind_ok(kind: usize, body: &[u8]) {
+    say::word(b"rules.kind_ok");
+    say::flag(store::rules::kind_ok(kind, body));
+}
+
+// Answers a case; whether it is one of these.
+pub fn answer(op: usize, x: usize, y: usize, a: &[u8]) -> bool {
+    match op {
+        40 => by_kind(x),
+        41 => by_id(x, y),
+        42 => by_short(x, y),
+        43 => by_place(x),
+        44 => kind_ok(x, a),
+        _ => return false,
+    }
+    true
+}

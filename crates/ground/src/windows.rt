@@ -1,0 +1,28 @@
+// Cases of objects::window.
+use crate::say;
+
+fn window(record: &[u8], offset: usize, number: usize) {
+    say::word(b"window");
+    say::bytes(objects::window::window(record, offset, number));
+}
+
+fn occurs(bytes: &[u8], text: &[u8]) {
+    say::word(b"occurs");
+    say::flag(objects::window::occurs(bytes, text));
+}
+
+fn matches(record: &[u8], offset: usize, number: usize, text: &[u8]) {
+    say::word(b"matches");
+    say::flag(objects::window::matches(record, offset, number, text));
+}
+
+// Answers a case; whether it is one of these.
+pub fn answer(op: usize, x: usize, y: usize, a: &[u8], b: &[u8]) -> bool {
+    match op {
+        60 => window(a, x, y),
+        61 => occurs(a, b),
+        62 => matches(a, x, y, b),
+        _ => return false,
+    }
+    true
+}
