@@ -1,3 +1,4 @@
 -- Laws of the files of a card.
 pub mod Entries
 pub mod Contents
+pub mod Meant

@@ -1,0 +1,2 @@
+-- Laws of sessions.
+pub mod Steps

@@ -1,0 +1,62 @@
+-- Laws of steps in order, and of the file that steps 7 to 9 reach.
+use Prim.Native.Nat.{ℕ}
+use mathlib.Core.Path.{_≡_}
+use mathlib.Core.Bool.{Bool, true, false}
+use mathlib.Core.List.{List, [], _∷_}
+use Rattle.base.specs.Choice.{pick}
+use Rattle.base.proofs.Cases.{pick-ind}
+use Rattle.files.specs.Files.{byId, byShort}
+use Rattle.files.specs.declared.File.{File}
+use Rattle.files.proofs.Meant.{FileOk, by-id-ok, by-short-ok}
+use Rattle.session.specs.Order.{inOrder}
+use Rattle.session.specs.Reach.{suits, permitted, reachFile, reachPlace, reach}
+use Rattle.session.specs.declared.Place.{Place}
+use Rattle.session.specs.declared.Place.the-variants.{Nothing, File as OnFile, Record as OnRecord}
+use Rattle.session.specs.declared.Session.{Session}
+use Rattle.session.specs.declared.Named.{Named}
+use Rattle.session.specs.declared.Named.the-variants.{Current, Short, Id}
+use Rattle.session.specs.declared.Task.{Task}
+use Rattle.session.specs.declared.Reached.{Reached}
+use Rattle.session.specs.declared.Reached.the-variants.{Stop, At}
+
+-- each answer of a table has a property
+abbrev pub Each : {A : Type 0} → (A → Type 0) → List (Bool × A) → Type 0
+Each P [] = Unit {0}
+Each P (c ∷ cs) = P (c .1) × Each P cs
+
+-- every test of a table holds
+abbrev pub Passed : {A : Type 0} → List (Bool × A) → Type 0
+Passed [] = Unit {0}
+Passed (c ∷ cs) = (c .0 ≡ true) × Passed cs
+
+-- what holds of each answer of a table, and of the last one where every test holds, holds of what the table gives
+pub in-order : {A : Type 0} (P : A → Type 0) (cs : List (Bool × A)) (a : A) → Each P cs → (Passed cs → P a) → P (inOrder cs a)
+unfolding inOrder
+in-order P [] a e h = h tt
+in-order P (c ∷ cs) a e h = pick-ind P (c .0) (λ t. in-order P cs a (e .1) (λ p. h (t, p))) (λ t. e .0)
+
+-- what is reached stands in the image, suits the task and is permitted
+pub record FileReached (img : List ℕ) (s : Session) (t : Task) (f : File) : Type 0 where
+  pub ok : FileOk img f
+  pub suited : suits t f ≡ true
+  pub allowed : permitted img s t f ≡ true
+
+abbrev pub ReachedOk : List ℕ → Session → Task → Reached → Type 0
+ReachedOk img s t (Stop w) = Unit {0}
+ReachedOk img s t (At f) = FileReached img s t f
+
+module _ (img : List ℕ) (s : Session) (t : Task) where
+  file-ok : (f : File) → FileOk img f → ReachedOk img s t (reachFile img s t f)
+  unfolding reachFile
+  file-ok f o = in-order (ReachedOk img s t) _ (At f) (tt, (tt, (tt, tt))) (λ p. record { ok = o; suited = p .1 .0; allowed = p .1 .1 .0 })
+
+  place-ok : (p : Place) → ReachedOk img s t (reachPlace img s t p)
+  place-ok Nothing = tt
+  place-ok (OnFile i) = file-ok (byId img (s .application) i) (by-id-ok img (s .application) i)
+  place-ok (OnRecord i n) = file-ok (byId img (s .application) i) (by-id-ok img (s .application) i)
+
+  pub reach-ok : (named : Named) → ReachedOk img s t (reach img s t named)
+  unfolding reach
+  reach-ok Current = place-ok (s .place)
+  reach-ok (Short x) = file-ok (byShort img (s .application) x) (by-short-ok img (s .application) x)
+  reach-ok (Id i) = file-ok (byId img (s .application) i) (by-id-ok img (s .application) i)
