@@ -1,6 +1,6 @@
 -- Steps 1 to 3, and then the command.
 use Prim.Native.Nat.{ℕ}
-use mathlib.Core.List.{List}
+use mathlib.Core.List.{List, []}
 use lib.Dec.{eqb}
 use Rattle.base.specs.Choice.{pick}
 use Rattle.base.specs.Bytes.{part}
@@ -47,3 +47,11 @@ byShape img s cmd (Good f) = byClass img s f (part cmd (f .from) (f .lc))
 
 unfoldable pub decide : List ℕ → Session → List ℕ → Decision
 decide img s cmd = byShape img s cmd (shapeOf cmd)
+
+-- the command's data field
+abbrev pub dataBy : List ℕ → Apdu → List ℕ
+dataBy cmd Bad = []
+dataBy cmd (Good f) = part cmd (f .from) (f .lc)
+
+unfoldable pub dataOf : List ℕ → List ℕ
+dataOf cmd = dataBy cmd (shapeOf cmd)

@@ -1,0 +1,2 @@
+-- Laws of decisions.
+pub mod Allowing
