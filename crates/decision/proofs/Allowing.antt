@@ -84,7 +84,7 @@ abbrev pub Allowed : List ℕ → Session → List ℕ → Decision → Type 0
 Allowed img s d (Status w) = Unit {0}
 Allowed img s d (Enter a) = Unit {0}
 Allowed img s d (Choose f) = FileReached img s Look f
-Allowed img s d (ReadOf f o n) = FileReached img s ReadBytes f × (n ≤ 2048)
+Allowed img s d (ReadOf f o n) = FileReached img s ReadBytes f × (n ≤ 2048) × (o + n ≤ length (content img f))
 Allowed img s d (Write f w) = Writable img s f w
 Allowed img s d (Activate f) = FileReached img s WriteBytes f
 Allowed img s d (Append r) = Appends img s (length d) r
@@ -127,7 +127,7 @@ module _ (img : List ℕ) (s : Session) (d : List ℕ) where
       (λ p. at-file ReadBytes (readNamed f) (readAt img (readOffset f) (f .ne)) (λ g r. read (readOffset f) (f .ne) g r))
     where
       read : (o ne : ℕ) (g : File) → FileReached img s ReadBytes g → P (readAt img o ne g)
-      read o ne g r = unfold readAt in in-order P _ _ (tt, tt) (λ p. (r, omega arith))
+      read o ne g r = unfold readAt in in-order P _ _ (tt, tt) (λ p. let h = ltb-true o (length (content img g)) (p .0) in (r, omega arith, omega arith))
 
   update-allowed : (f : Frame) → P (updateBinary img s f d)
   unfolding updateBinary

@@ -69,8 +69,8 @@ fn by_own_ins(image: &[u8], s: Session, f: Frame, data: &[u8]) -> Decision
     Decision::Status(0x6D00)
 }
 
-// Step 2.
-fn by_class(image: &[u8], s: Session, f: Frame, data: &[u8]) -> Decision
+// Steps 2 and 3, for a command that step 1 has taken apart.
+pub fn by_class(image: &[u8], s: Session, f: Frame, data: &[u8]) -> Decision
     ensures { λ r. ⌜ r ≡ byClass (now (image .entry)) s f (now («data» .entry)) ⌝ }
 {
     let h = f.header;

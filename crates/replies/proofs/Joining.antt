@@ -1,0 +1,82 @@
+-- Records joined, as a walk stores them one by one.
+use Prim.Native.Nat.{ℕ, zero, suc, _+_, _-_, _≤_, _<_, min}
+use mathlib.Core.Path.{_≡_, refl, sym, ap, _∙_}
+use mathlib.Core.List.{List, [], _∷_, _++_, append-nil}
+use native.Mathlib.Omega.{arith}
+use native.Mathlib.Numerals.{add-one}
+use native.Mathlib.Nat.{add-zero, add-suc, sub-zero, suc-sub-suc}
+use lib.ListN.{length, take, length-take, List·getD-eq-default}
+use lib.Seq.{sets}
+use lib.Dec.{leb, ltb}
+use borrow.Author.Tests.{le-ltb, leb-true, leb-false}
+use Rattle.base.specs.Choice.{pick}
+use Rattle.base.proofs.Cases.{by-cases, pick-ind}
+use Rattle.store.specs.Body.{count, recordAt, nth, walkAt, walked}
+use Rattle.replies.specs.Joined.{joined, recordsData}
+use Rattle.replies.proofs.Storing.{Wrote, wrote-run}
+use Rattle.replies.proofs.Walking.{walked-length, walked-nth}
+
+-- what a cut leaves of two lists
+take-more : (k : ℕ) (a b : List ℕ) → take k (a ++ b) ≡ take k a ++ take (k - length (take k a)) b
+take-more zero a b = refl
+take-more (suc k) [] b = rw sub-zero refl
+take-more (suc k) (x ∷ a) b = rw suc-sub-suc (ap (λ (l : List ℕ). x ∷ l) (take-more k a b))
+
+-- ---- one record more
+
+joined-turn : (xs : List ℕ) (first n at : ℕ) (r : List ℕ) → n < count xs → at ≡ walkAt xs n → r ≡ pick (leb first (n + 1)) (recordAt xs at) []
+    → joined (walked xs) first (n + 1) ≡ joined (walked xs) first n ++ r
+unfolding joined
+joined-turn xs first n at r h p e =
+    let g : nth (walked xs) (suc n) ≡ recordAt xs at = rw add-one at (walked-nth xs n at h p) in
+    let f : r ≡ pick (leb first (suc n)) (nth (walked xs) (suc n)) [] = rw (g, ← add-one n) e in
+    rw add-one (ap (λ (l : List ℕ). joined (walked xs) first n ++ l) (sym f))
+
+pub data-none : (rs : List (List ℕ)) (first : ℕ) (out : List ℕ) → Wrote out (recordsData rs first 0) 0 out
+unfolding recordsData joined
+data-none rs first out = record { place = refl; bytes = refl }
+
+pub data-turn : (xs : List ℕ) (first n at : ℕ) (r out : List ℕ) {len len′ : ℕ} {last last′ : List ℕ} → n < count xs → at ≡ walkAt xs n
+    → r ≡ pick (leb first (n + 1)) (recordAt xs at) [] → Wrote out (recordsData (walked xs) first n) len last
+    → (len′ ≡ len + length (take (2048 - len) r)) × (last′ ≡ sets last len (take (2048 - len) r)) → Wrote out (recordsData (walked xs) first (n + 1)) len′ last′
+unfolding recordsData
+data-turn xs first n at r out {len} {len′} {last} {last′} h p e w s =
+    let J : List ℕ = joined (walked xs) first n in
+    let d : List ℕ = take (2048 - len) r in
+    let q : take 2048 J ++ d ≡ take 2048 (joined (walked xs) first (n + 1)) =
+    ap (λ (k : ℕ). take 2048 J ++ take (2048 - k) r) (w .place) ∙ sym (ap (take 2048) (joined-turn xs first n at r h p e) ∙ take-more 2048 J r) in
+    let g : Wrote out (take 2048 J ++ d) (len + length d) last′ = wrote-run out (take 2048 J) d w (s .1) in
+    record { place = s .0 ∙ g .place ∙ ap length q; bytes = g .bytes ∙ ap (sets out 0) q }
+
+-- never more than the cut
+pub data-cut : (rs : List (List ℕ)) (first last : ℕ) → length (recordsData rs first last) ≤ 2048
+unfolding recordsData
+data-cut rs first last = simp length-take (omega arith)
+
+-- ---- numbers above the last record's
+
+joined-past : (rs : List (List ℕ)) (first n k : ℕ) → length rs ≤ n → joined rs first (n + k) ≡ joined rs first n
+unfolding joined nth
+joined-past rs first n zero h = simp add-zero
+joined-past rs first n (suc k) h =
+    let none : pick (leb first (suc (n + k))) (nth rs (suc (n + k))) [] ≡ [] =
+    pick-ind (λ (l : List ℕ). l ≡ []) (leb first (suc (n + k))) (λ e. List·getD-eq-default rs [] (omega arith)) (λ e. refl) in
+    ap (joined rs first) (add-suc n k) ∙ ap (λ (l : List ℕ). joined rs first (n + k) ++ l) none ∙ append-nil (joined rs first (n + k)) ∙ joined-past rs first n k h
+
+pub joined-end : (rs : List (List ℕ)) (first last n : ℕ) → n ≡ min last (length rs) → joined rs first n ≡ joined rs first last
+joined-end rs first last n e =
+    by-cases (leb last (length rs))
+    (λ h. let g = leb-true last (length rs) h in ap (joined rs first) (omega arith))
+    (λ h. let g = leb-false last (length rs) h in
+    let q : n + (last - n) ≡ last = omega arith in
+    sym (ap (joined rs first) (sym q) ∙ joined-past rs first n (last - n) (omega arith)))
+
+-- all of it, where the buffer has 2,048 bytes
+pub data-end : (xs : List ℕ) (first last n : ℕ) (out : List ℕ) {len : ℕ} {now : List ℕ} → 2048 ≤ length out → n ≡ min last (count xs)
+    → Wrote out (recordsData (walked xs) first n) len now
+    → (len ≡ pick (ltb (length out) 2048) 0 (length (recordsData (walked xs) first last))) × (now ≡ pick (ltb (length out) 2048) out (sets out 0 (recordsData (walked xs) first last)))
+unfolding recordsData
+data-end xs first last n out h e w =
+    let l = walked-length xs in
+    let q : recordsData (walked xs) first n ≡ recordsData (walked xs) first last = ap (take 2048) (joined-end (walked xs) first last n (omega arith)) in
+    simp (le-ltb (length out) 2048 h) (w .place ∙ ap length q, w .bytes ∙ ap (sets out 0) q)

@@ -1,0 +1,4 @@
+-- The data of responses (document 01).
+pub mod Joined
+pub mod Found
+pub mod Report
