@@ -8,7 +8,7 @@ use native.Mathlib.Nat.{add-zero, add-suc, sub-zero, suc-sub-suc}
 use lib.ListN.{length, take, length-take, List·getD-eq-default}
 use lib.Seq.{sets}
 use lib.Dec.{leb, ltb}
-use borrow.Author.Tests.{le-ltb, leb-true, leb-false}
+use borrow.Author.Tests.{le-ltb, le-leb, lt-leb, leb-true, leb-false}
 use Rattle.base.specs.Choice.{pick}
 use Rattle.base.proofs.Cases.{by-cases, pick-ind}
 use Rattle.store.specs.Body.{count, recordAt, nth, walkAt, walked}
@@ -80,3 +80,19 @@ data-end xs first last n out h e w =
     let l = walked-length xs in
     let q : recordsData (walked xs) first n ≡ recordsData (walked xs) first last = ap (take 2048) (joined-end (walked xs) first last n (omega arith)) in
     simp (le-ltb (length out) 2048 h) (w .place ∙ ap length q, w .bytes ∙ ap (sets out 0) q)
+
+-- ---- what is returned, by the numbers: nothing of records before the first, one record, and each behind those before it
+
+pub joined-below : (rs : List (List ℕ)) (first n : ℕ) → n < first → joined rs first n ≡ []
+unfolding joined
+joined-below rs first zero h = refl
+joined-below rs first (suc n) h = simp (lt-leb first (suc n) h) (append-nil (joined rs first n) ∙ joined-below rs first n (omega arith))
+
+pub joined-one : (rs : List (List ℕ)) (n : ℕ) → 1 ≤ n → joined rs n n ≡ nth rs n
+unfolding joined
+joined-one rs zero p = absurd (omega arith)
+joined-one rs (suc n) p = simp (le-leb (suc n) (suc n) (omega arith), joined-below rs (suc n) n (omega arith))
+
+pub joined-next : (rs : List (List ℕ)) (first n : ℕ) → first ≤ n + 1 → joined rs first (n + 1) ≡ joined rs first n ++ nth rs (n + 1)
+unfolding joined
+joined-next rs first n h = rw add-one (simp (le-leb first (suc n) (omega arith)))

@@ -1,0 +1,5 @@
+-- Laws of one call.
+pub mod Saying
+pub mod Reaching
+pub mod Seeking
+pub mod Carrying

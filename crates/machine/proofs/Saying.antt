@@ -1,0 +1,84 @@
+-- A status word behind its data.
+use Prim.Native.Nat.{ℕ, _+_, _≤_}
+use mathlib.Core.Path.{_≡_, sym, ap, ap₂, _∙_}
+use mathlib.Core.Bool.{false}
+use mathlib.Core.List.{List, []}
+use native.Mathlib.Omega.{arith}
+use native.Mathlib.Nat.{zero-add}
+use lib.ListN.{length, length-append}
+use lib.Seq.{sets}
+use lib.Dec.{ltb}
+use borrow.Author.Tests.{le-ltb}
+use Rattle.base.specs.Choice.{pick}
+use Rattle.base.specs.Bytes.{put}
+use Rattle.base.proofs.Runs.{fits-yes, put-yes}
+use Rattle.store.specs.Body.{count}
+use Rattle.store.specs.Image.{updateIn}
+use Rattle.objects.specs.Writer.{after}
+use Rattle.objects.proofs.Writings.{put-behind, after-yes}
+use Rattle.replies.specs.Joined.{recordsData}
+use Rattle.replies.specs.Report.{reportData}
+use Rattle.replies.proofs.Bounds.{records-bound}
+use Rattle.session.specs.Session.{placed}
+use Rattle.session.specs.declared.Place.the-variants.{File as OnFile, Record as OnRecord}
+use Rattle.session.specs.declared.Session.{Session}
+use Rattle.machine.specs.Outcome.{outcome, word, answered, says}
+use Rattle.machine.specs.declared.Answer.{Answer}
+
+-- the data stands at the start of the buffer, the word comes behind it
+pub said : (w : ℕ) (dat : List ℕ) (s : Session) (img buf : List ℕ) {t : Session} {n : ℕ} {mid new : List ℕ} {a : Answer} → length dat ≤ 2048 → 2050 ≤ length buf
+    → t ≡ s → (n ≡ length dat) × (mid ≡ put buf 0 dat) → (a ≡ answered n w t) × (new ≡ put mid n (word w)) → outcome a img new ≡ says w dat s img buf
+unfolding says word
+said w dat s img buf {t} {n} {mid} {new} {a} h r o p e =
+    ap₂ (λ (x : Answer) (l : List ℕ). outcome x img l)
+    (e .0 ∙ ap₂ (λ (k : ℕ) (x : Session). answered k w x) (p .0) o)
+    (e .1
+    ∙ ap₂ (λ (l : List ℕ) (k : ℕ). put l k (word w)) (p .1) (p .0 ∙ sym (zero-add (length dat)))
+    ∙ put-behind buf 0 dat (word w) (simp length-append (omega arith)))
+
+-- no data, and perhaps another image
+pub said-only : (w : ℕ) (s : Session) (img buf : List ℕ) {t : Session} {im new : List ℕ} {a : Answer} → t ≡ s → im ≡ img
+    → (a ≡ answered 0 w t) × (new ≡ put buf 0 (word w)) → outcome a im new ≡ says w [] s img buf
+unfolding says
+said-only w s img buf {t} {im} {new} o i e =
+    ap₂ (λ (x : Answer) (m : List ℕ). outcome x m new) (e .0 ∙ ap (λ (x : Session). answered 0 w x) o) i
+    ∙ ap (outcome (answered 0 w s) img) (e .1)
+
+-- a writer that answers the place behind what it stored has room for it
+pub stored : (buf dat : List ℕ) {n : ℕ} {mid : List ℕ} → length dat ≤ 2048 → 2050 ≤ length buf → (n ≡ after buf 0 dat) × (mid ≡ put buf 0 dat)
+    → (n ≡ length dat) × (mid ≡ put buf 0 dat)
+stored buf dat h r e = (
+  e .0 ∙ sym (after-yes buf 0 dat (fits-yes buf 0 dat (omega arith))) ∙ zero-add (length dat),
+  e .1,
+)
+
+-- so does one that stores records
+pub stored-records : (buf : List ℕ) (rs rs′ : List (List ℕ)) (a b : ℕ) {n : ℕ} {mid : List ℕ} → rs ≡ rs′ → 2050 ≤ length buf
+    → (n ≡ pick (ltb (length buf) 2048) 0 (length (recordsData rs a b))) × (mid ≡ pick (ltb (length buf) 2048) buf (sets buf 0 (recordsData rs a b)))
+    → (n ≡ length (recordsData rs′ a b)) × (mid ≡ put buf 0 (recordsData rs′ a b))
+stored-records buf rs rs′ a b s r e =
+    let t : ltb (length buf) 2048 ≡ false = le-ltb (length buf) 2048 (omega arith) in
+    let d : recordsData rs a b ≡ recordsData rs′ a b = ap (λ (x : List (List ℕ)). recordsData x a b) s in
+    let n = rw t at e .0 in
+    let bytes = rw t at e .1 in
+    (n ∙ ap length d, bytes ∙ ap (sets buf 0) d ∙ sym (put-yes buf 0 (recordsData rs′ a b) (omega (arith, records-bound rs′ a b))))
+
+-- the same numbers, the same report
+pub same-report : (p2 : ℕ) {t r e t′ r′ e′ : ℕ} → t ≡ t′ → r ≡ r′ → e ≡ e′ → reportData p2 t r e ≡ reportData p2 t′ r′ e′
+same-report p2 {t} {r} {e} {t′} {r′} p q z =
+    ap₂ (λ (x y : ℕ). reportData p2 x y e) p q ∙ ap (reportData p2 t′ r′) z
+
+-- the same answer over the same bytes
+pub same-answer : (img buf : List ℕ) {a b : Answer} → a ≡ b → outcome a img buf ≡ outcome b img buf
+same-answer img buf e = ap (λ (x : Answer). outcome x img buf) e
+
+-- the session's new place, and the image's new bytes, by equal numbers
+pub same-file : (s : Session) {t : Session} {i i′ : ℕ} → t ≡ placed s (OnFile i) → i ≡ i′ → t ≡ placed s (OnFile i′)
+same-file s e n = e ∙ ap (λ (x : ℕ). placed s (OnFile x)) n
+
+pub same-record : (s : Session) (i : ℕ) {t : Session} {k : ℕ} {xs ys : List ℕ} → xs ≡ ys → k ≡ count xs → t ≡ placed s (OnRecord i (k + 1))
+    → t ≡ placed s (OnRecord i (count ys + 1))
+same-record s i x n e = e ∙ ap (λ (k : ℕ). placed s (OnRecord i (k + 1))) (n ∙ ap count x)
+
+pub same-update : (img : List ℕ) (o : ℕ) {new : List ℕ} {k k′ : ℕ} {l l′ : List ℕ} → new ≡ updateIn img k o l → k ≡ k′ → l ≡ l′ → new ≡ updateIn img k′ o l′
+same-update img o e n x = e ∙ ap₂ (λ (k : ℕ) (l : List ℕ). updateIn img k o l) n x

@@ -1,0 +1,4 @@
+-- The command machine: what one call does.
+pub mod Outcome
+pub mod Effects
+pub mod Step

@@ -1,0 +1,219 @@
+// The command machine: command bytes, rights and card image in; response, status word and image out.
+use apdu::Apdu;
+use decision::Decision;
+use files::File;
+use objects::templates::Search;
+use session::Place;
+use session::Refusal;
+use session::Session;
+use store::body;
+use store::image;
+use store::rules::Rule;
+ghost use mathlib.Core.Path.{_≡_};
+ghost use mathlib.Core.Bool.{true};
+ghost use mathlib.Core.List.{[], _++_};
+ghost use Prim.Native.Nat.{_+_, _≤_};
+ghost use lib.ListN.{length, getD};
+ghost use Rattle.base.specs.Bytes.{put};
+ghost use Rattle.store.specs.Image.{wellFormed};
+ghost use Rattle.decision.specs.declared.Decision.the-variants.{Seek, Read, Report, Bytes as ReadOf};
+ghost use Rattle.files.specs.Files.{content};
+ghost use Rattle.session.specs.Session.{placed as placedAt, entered as enteredAt};
+ghost use Rattle.session.specs.declared.Refusal.the-variants.{Taken};
+ghost use Rattle.decision.proofs.Allowing.{Allowed};
+ghost use Rattle.machine.specs.Outcome.{outcome, word, answered, refused as refusedAs};
+ghost use Rattle.machine.specs.Effects.{sought, done};
+ghost use Rattle.machine.specs.Step.{taken as takenAs, step, opening};
+
+// What a call answers.
+pub struct Answer {
+    pub refusal: Refusal,
+    pub length: usize,
+    pub status: usize,
+    pub session: Session,
+}
+
+// Opens a session with the rights of three certificates.
+pub fn open(certificates: &[u8]) -> Answer
+    ensures { λ r. ⌜ r ≡ opening (now (certificates .entry)) ⌝ }
+{
+    Answer {
+        refusal: session::refuse_open(certificates),
+        length: 0,
+        status: 0,
+        session: session::open(certificates),
+    }
+}
+
+// A call that is refused: nothing is touched.
+fn refused(refusal: Refusal, s: Session) -> Answer
+    ensures { λ r. ⌜ r ≡ refusedAs refusal s ⌝ }
+{
+    Answer {
+        refusal,
+        length: 0,
+        status: 0,
+        session: s,
+    }
+}
+
+// Writes a status word behind n bytes of data.
+fn finish(s: Session, w: usize, n: usize, response: &mut [u8]) -> Answer
+    requires { ⌜ n ≤ 2048 ⌝ }
+    ensures { λ r. ⌜ (r ≡ answered n w s) × (now (response .exit) ≡ put (now (response .entry)) n (word w)) ⌝ }
+{
+    let sw = [(w / 256 % 256) as u8, (w % 256) as u8];
+    base::put(response, n, &sw);
+    Answer {
+        refusal: Refusal::Taken,
+        length: n + 2,
+        status: w,
+        session: s,
+    }
+}
+
+// The session at another place.
+fn placed(s: Session, place: Place) -> Session
+    ensures { λ t. ⌜ t ≡ placedAt s place ⌝ }
+{
+    let rights = s.rights;
+    Session {
+        rights,
+        application: s.application,
+        place,
+    }
+}
+
+fn entered(s: Session, application: usize) -> Session
+    ensures { λ t. ⌜ t ≡ enteredAt s application ⌝ }
+{
+    let rights = s.rights;
+    Session {
+        rights,
+        application,
+        place: Place::Nothing,
+    }
+}
+
+// SEARCH RECORD from the matches on.
+fn seek(
+    image: &[u8],
+    s: Session,
+    r: Rule,
+    q: Search,
+    ne: usize,
+    data: &[u8],
+    response: &mut [u8],
+) -> Answer
+    requires { ⌜ (wellFormed (now image) ≡ true) × (2050 ≤ length (now response)) × Allowed (now image) s (now «data») (Seek r q ne) ⌝ }
+    ensures { λ a. ⌜ outcome a (now (image .entry)) (now (response .exit)) ≡ sought (now (image .entry)) s (now («data» .entry)) (now (response .entry)) r q ne ⌝ }
+{
+    let t = q.text;
+    let p = q.file;
+    let text = base::part(data, t.at, t.len);
+    let file = base::part(data, p.at, p.len);
+    let h = replies::search::search(image::body(image, r.kind), q.offset, q.number, text, q.one);
+    let n = h.n;
+    if n == 0 {
+        return finish(s, 0x6282, 0, response);
+    }
+    if ne < replies::search::found_length(file.len(), n) {
+        return finish(s, 0x6700, 0, response);
+    }
+    let first = replies::search::first(h);
+    let k = replies::search::put_found(response, file, h);
+    finish(placed(s, Place::Record(r.id, first)), 0x9000, k, response)
+}
+
+// READ RECORD.
+fn read(image: &[u8], s: Session, r: Rule, a: usize, b: usize, response: &mut [u8]) -> Answer
+    requires { ⌜ (wellFormed (now image) ≡ true) × (2050 ≤ length (now response)) × Allowed (now image) s [] (Read r a b) ⌝ }
+    ensures { λ x. ⌜ outcome x (now (image .entry)) (now (response .exit)) ≡ done (Read r a b) (now (image .entry)) s [] (now (response .entry)) ⌝ }
+{
+    let n = replies::records::put_records(image::body(image, r.kind), a, b, response);
+    finish(session::set_file(s, File::Records(r)), 0x9000, n, response)
+}
+
+// FMM.
+fn report(image: &[u8], s: Session, f: File, p2: usize, response: &mut [u8]) -> Answer
+    requires { ⌜ 2050 ≤ length (now response) ⌝ }
+    ensures { λ x. ⌜ outcome x (now (image .entry)) (now (response .exit)) ≡ done (Report f p2) (now (image .entry)) s [] (now (response .entry)) ⌝ }
+{
+    let t = replies::fmm::total(image, f);
+    let r = replies::fmm::remaining(image, f);
+    let e = replies::fmm::existing(image, f);
+    let n = replies::fmm::put_report(response, p2, t, r, e);
+    finish(session::set_file(s, f), 0x9000, n, response)
+}
+
+// READ BINARY.
+fn bytes(image: &[u8], s: Session, f: File, o: usize, n: usize, response: &mut [u8]) -> Answer
+    requires { ⌜ (2050 ≤ length (now response)) × (n ≤ 2048) × (o + n ≤ length (content (now image) f)) ⌝ }
+    ensures { λ x. ⌜ outcome x (now (image .entry)) (now (response .exit)) ≡ done (ReadOf f o n) (now (image .entry)) s [] (now (response .entry)) ⌝ }
+{
+    files::put_content(image, f, o, n, response);
+    finish(session::set_file(s, f), 0x9000, n, response)
+}
+
+// Carries out what is decided: the only function here that writes the image.
+fn apply(image: &mut [u8], s: Session, d: Decision, data: &[u8], response: &mut [u8]) -> Answer
+    requires { ⌜ (wellFormed (now image) ≡ true) × (2050 ≤ length (now response)) × Allowed (now image) s (now «data») d ⌝ }
+    ensures { λ a. ⌜ outcome a (now (image .exit)) (now (response .exit)) ≡ done d (now (image .entry)) s (now («data» .entry)) (now (response .entry)) ⌝ }
+{
+    match d {
+        Decision::Status(w) => finish(s, w, 0, response),
+        Decision::Enter(a) => finish(entered(s, a), 0x9000, 0, response),
+        Decision::Choose(f) => finish(placed(s, Place::File(files::id_of(f))), 0x9000, 0, response),
+        Decision::Bytes(f, o, n) => bytes(image, s, f, o, n, response),
+        Decision::Write(f, w) => {
+            let p = w.bytes;
+            image::update(
+                image,
+                files::kind_of(f),
+                w.offset,
+                base::part(data, p.at, p.len),
+            );
+            finish(session::set_file(s, f), 0x9000, 0, response)
+        }
+        Decision::Activate(f) => {
+            image::activate(image, files::kind_of(f));
+            finish(s, 0x9000, 0, response)
+        }
+        Decision::Append(r) => {
+            let n = body::count(image::body(image, r.kind));
+            image::append(image, r.kind, data);
+            finish(placed(s, Place::Record(r.id, n + 1)), 0x9000, 0, response)
+        }
+        Decision::Read(r, a, b) => read(image, s, r, a, b, response),
+        Decision::Seek(r, q, ne) => seek(image, s, r, q, ne, data, response),
+        Decision::Report(f, p2) => report(image, s, f, p2, response),
+    }
+}
+
+// A command that no refusal keeps out.
+fn taken(image: &mut [u8], s: Session, command: &[u8], response: &mut [u8]) -> Answer
+    requires { ⌜ (wellFormed (now image) ≡ true) × (2050 ≤ length (now response)) ⌝ }
+    ensures { λ a. ⌜ outcome a (now (image .exit)) (now (response .exit)) ≡ takenAs Taken (now (image .entry)) s (now (command .entry)) (now (response .entry)) ⌝ }
+{
+    match apdu::shape(command) {
+        Apdu::Bad => finish(s, 0x6700, 0, response),
+        Apdu::Good(f) => {
+            let data = base::part(command, f.from, f.lc);
+            let d = decision::by_class(image, s, f, data);
+            apply(image, s, d, data, response)
+        }
+    }
+}
+
+// One command on a card image in a session. The response goes to the buffer's start; the session comes back in the answer.
+pub fn command(image: &mut [u8], s: Session, command: &[u8], response: &mut [u8]) -> Answer
+    ensures { λ a. ⌜ outcome a (now (image .exit)) (now (response .exit)) ≡ step (now (image .entry)) s (now (command .entry)) (now (response .entry)) ⌝ }
+{
+    match session::refuse(image, s, response.len()) {
+        Refusal::Taken => taken(image, s, command, response),
+        Refusal::ShortBuffer => refused(Refusal::ShortBuffer, s),
+        Refusal::BadImage => refused(Refusal::BadImage, s),
+        Refusal::BadRights => refused(Refusal::BadRights, s),
+        Refusal::BadSession => refused(Refusal::BadSession, s),
+    }
+}
