@@ -3,3 +3,5 @@ pub mod Saying
 pub mod Reaching
 pub mod Seeking
 pub mod Carrying
+pub mod Worked
+pub mod Alone
