@@ -24,7 +24,7 @@ fn activate(body: &mut [u8]) {
 }
 
 // Answers a case; whether it is one of these.
-pub fn answer(op: usize, x: usize, a: &mut [u8], b: &[u8]) -> bool {
+pub(crate) fn answer(op: usize, x: usize, a: &mut [u8], b: &[u8]) -> bool {
     match op {
         30 => read(a),
         31 => update(a, x, b),

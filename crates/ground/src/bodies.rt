@@ -30,7 +30,7 @@ fn append(body: &mut [u8], record: &[u8]) {
 }
 
 // Answers a case; whether it is one of these.
-pub fn answer(op: usize, x: usize, y: usize, a: &mut [u8], b: &[u8]) -> bool {
+pub(crate) fn answer(op: usize, x: usize, y: usize, a: &mut [u8], b: &[u8]) -> bool {
     match op {
         20 => used(a),
         21 => fits(a, x),

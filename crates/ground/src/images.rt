@@ -50,7 +50,7 @@ fn activate(image: &mut [u8], kind: usize) {
 }
 
 // Answers a case; whether it is one of these.
-pub fn answer(op: usize, x: usize, y: usize, a: &mut [u8], b: &[u8]) -> bool {
+pub(crate) fn answer(op: usize, x: usize, y: usize, a: &mut [u8], b: &[u8]) -> bool {
     match op {
         10 => well_formed(a),
         11 => find(a, x),

@@ -105,7 +105,7 @@ fn five(s: &[u8]) {
 }
 
 // Answers a case; whether it is one of these.
-pub fn answer(op: usize, x: usize, a: &[u8]) -> bool {
+pub(crate) fn answer(op: usize, x: usize, a: &[u8]) -> bool {
     match op {
         50 => length(a),
         51 => header(a, x),

@@ -45,7 +45,7 @@ fn kind_ok(kind: usize, body: &[u8]) {
 }
 
 // Answers a case; whether it is one of these.
-pub fn answer(op: usize, x: usize, y: usize, a: &[u8]) -> bool {
+pub(crate) fn answer(op: usize, x: usize, y: usize, a: &[u8]) -> bool {
     match op {
         40 => by_kind(x),
         41 => by_id(x, y),

@@ -1,23 +1,23 @@
 // What the answers are written with: words, numbers in decimal, bytes in hexadecimal, one line to a case.
 
 // Writes a word.
-pub fn word(s: &[u8]) {
+pub(crate) fn word(s: &[u8]) {
     io::write_all(1, s);
 }
 
 // Ends the line.
-pub fn end() {
+pub(crate) fn end() {
     word(b"\n");
 }
 
 // Writes a space and a number.
-pub fn number(n: usize) {
+pub(crate) fn number(n: usize) {
     word(b" ");
     io::print_decimal(1, n as u64);
 }
 
 // Writes a space and 1 for yes, 0 for no.
-pub fn flag(yes: bool) {
+pub(crate) fn flag(yes: bool) {
     if yes {
         word(b" 1");
     } else {
@@ -50,7 +50,7 @@ fn some(s: &[u8]) {
 }
 
 // Writes a space and the bytes of s, `-` where there are none.
-pub fn bytes(s: &[u8]) {
+pub(crate) fn bytes(s: &[u8]) {
     word(b" ");
     if s.len() == 0 {
         word(b"-");

@@ -17,7 +17,7 @@ fn matches(record: &[u8], offset: usize, number: usize, text: &[u8]) {
 }
 
 // Answers a case; whether it is one of these.
-pub fn answer(op: usize, x: usize, y: usize, a: &[u8], b: &[u8]) -> bool {
+pub(crate) fn answer(op: usize, x: usize, y: usize, a: &[u8], b: &[u8]) -> bool {
     match op {
         60 => window(a, x, y),
         61 => occurs(a, b),

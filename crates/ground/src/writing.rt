@@ -20,7 +20,7 @@ fn put_number(out: &mut [u8], at: usize, tag: usize, b: &[u8]) {
 }
 
 // Answers a case; whether it is one of these.
-pub fn answer(op: usize, x: usize, y: usize, a: &mut [u8], b: &[u8]) -> bool {
+pub(crate) fn answer(op: usize, x: usize, y: usize, a: &mut [u8], b: &[u8]) -> bool {
     match op {
         70 => fewest(x),
         71 => put_head(a, x, y, b),

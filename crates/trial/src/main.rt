@@ -1,0 +1,154 @@
+// Runs document 01's card to try through the command machine, and answers each call by a line. Standard input is the cases, one
+// behind the other, each by its first byte:
+// 1, a new card: 60 bytes of certificates, the image's length (4 bytes, little-endian), the image. It is copied to a buffer of
+//    262,144 bytes and a session is opened. The line: the refusal's number.
+// 2, a command: its length (2 bytes, little-endian), its bytes. It is run on the card, with the session that the call before
+//    answered and a response buffer of 2,050 bytes. The line: the refusal's number, the response (`-` where there is none).
+// 3, a look: the line is the card's image.
+mod say;
+
+use session::Refusal;
+use session::Session;
+use store::little::read32;
+ghost use mathlib.Core.Path.{_≡_};
+ghost use lib.ListN.{length};
+
+// What is left of the input behind a case, how long the card's image is, the session.
+struct Turn {
+    left: usize,
+    len: usize,
+    session: Session,
+}
+
+// Document 01's number of a refusal.
+fn refusal(r: Refusal) -> usize {
+    match r {
+        Refusal::Taken => 0,
+        Refusal::ShortBuffer => 1,
+        Refusal::BadImage => 2,
+        Refusal::BadRights => 3,
+        Refusal::BadSession => 4,
+    }
+}
+
+// The session that certificates open, and the line that says how.
+fn open(certificates: &[u8]) -> Session {
+    let a = machine::open(certificates);
+    let why = a.refusal;
+    say::number(refusal(why));
+    say::end();
+    a.session
+}
+
+// A new card, by what stands behind the case's first byte. What is torn leaves more than there is.
+fn start(s: &[u8], card: &mut [u8], session: Session) -> Turn {
+    let image = base::part(s, 64, s.len());
+    let len = read32(s, 60);
+    if s.len() < 64 || image.len() < len || card.len() < len {
+        return Turn {
+            left: s.len() + 1,
+            len: 0,
+            session,
+        };
+    }
+    base::put(card, 0, base::part(image, 0, len));
+    Turn {
+        left: image.len() - len,
+        len,
+        session: open(base::part(s, 0, 60)),
+    }
+}
+
+// Runs a command on the card's image, and writes its line.
+fn run(card: &mut [u8], len: usize, session: Session, command: &[u8]) -> Session {
+    let mut response = [0; 2050];
+    if card.len() < len {
+        return session;
+    }
+    let a = machine::command(&mut card[..len], session, command, &mut response);
+    let why = a.refusal;
+    say::number(refusal(why));
+    say::bytes(base::part(&response, 0, a.length));
+    say::end();
+    a.session
+}
+
+// A command, by what stands behind the case's first byte. What is torn leaves more than there is.
+fn command(s: &[u8], card: &mut [u8], len: usize, session: Session) -> Turn {
+    let bytes = base::part(s, 2, s.len());
+    let n = base::byte(s, 0) + 256 * base::byte(s, 1);
+    if s.len() < 2 || bytes.len() < n {
+        return Turn {
+            left: s.len() + 1,
+            len: 0,
+            session,
+        };
+    }
+    let c = base::part(bytes, 0, n);
+    let next = run(card, len, session, c);
+    Turn {
+        left: bytes.len() - n,
+        len,
+        session: next,
+    }
+}
+
+// The card's image.
+fn look(s: &[u8], card: &[u8], len: usize, session: Session) -> Turn {
+    say::word(b"image");
+    say::bytes(base::part(card, 0, len));
+    say::end();
+    Turn {
+        left: s.len(),
+        len,
+        session,
+    }
+}
+
+// Answers the case that s starts with. What is torn or unknown leaves no less than there is.
+fn case(s: &[u8], card: &mut [u8], len: usize, session: Session) -> Turn {
+    let rest = base::part(s, 1, s.len());
+    match base::byte(s, 0) {
+        1 => start(rest, card, session),
+        2 => command(rest, card, len, session),
+        3 => look(rest, card, len, session),
+        _ => Turn {
+            left: s.len(),
+            len,
+            session,
+        },
+    }
+}
+
+// Answers the cases of s, up to the first that is torn or unknown.
+fn cases(s: &[u8], card: &mut [u8]) {
+    let none = [0; 60];
+    let mut session = session::open(&none);
+    let mut len = 0;
+    let mut at = 0;
+    while at < s.len() {
+        let t = case(base::part(s, at, s.len()), card, len, session);
+        let left = t.left;
+        if s.len() - at <= left {
+            say::word(b"a torn or unknown case\n");
+            return;
+        }
+        len = t.len;
+        session = t.session;
+        at = s.len() - left;
+    }
+}
+
+// Room for all the cases, and for the card.
+fn room() -> [u8; 262144]
+    ensures { λ r. ⌜ 262144 ≡ length r ⌝ }
+{
+    [0; 262144]
+}
+
+fn main() {
+    let mut input = room();
+    let mut card = room();
+    let n = io::read_full(0, &mut input);
+    cases(&input[..n], &mut card);
+}

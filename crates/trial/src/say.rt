@@ -1,0 +1,56 @@
+// What the answers are written with: words, numbers in decimal, bytes in hexadecimal, one line to a call.
+
+// Writes a word.
+pub(crate) fn word(s: &[u8]) {
+    io::write_all(1, s);
+}
+
+// Ends the line.
+pub(crate) fn end() {
+    word(b"\n");
+}
+
+// Writes a number.
+pub(crate) fn number(n: usize) {
+    io::print_decimal(1, n as u64);
+}
+
+fn digit(n: u8) -> u8 {
+    let d = n % 16;
+    if d < 10 {
+        return d + 48;
+    }
+    d + 87
+}
+
+// Writes the first 2,048 bytes of s, or all where there are fewer.
+fn some(s: &[u8]) {
+    let mut text = io::buffer();
+    let mut i = 0;
+    while i < 2048 {
+        if s.len() <= i {
+            io::write_all(1, &text[..2 * i]);
+            return;
+        }
+        text[2 * i] = digit(s[i] / 16);
+        text[2 * i + 1] = digit(s[i]);
+        i += 1;
+    }
+    io::write_all(1, &text);
+}
+
+// Writes a space and the bytes of s, `-` where there are none.
+pub(crate) fn bytes(s: &[u8]) {
+    word(b" ");
+    if s.len() == 0 {
+        word(b"-");
+    }
+    let mut at = 0;
+    while at < s.len() {
+        some(base::part(s, at, 2048));
+        if s.len() - at <= 2048 {
+            return;
+        }
+        at += 2048;
+    }
+}
