@@ -15,19 +15,19 @@ use Rattle.store.specs.Body.{count, fits}
 use Rattle.store.specs.Biometrics.{written, room}
 use Rattle.store.specs.Image.{body}
 use Rattle.store.specs.declared.rules.Rule.{Rule}
-use Rattle.objects.specs.Search.{readSearch}
-use Rattle.objects.specs.Update.{readUpdate}
-use Rattle.objects.specs.Reference.{readReference}
-use Rattle.objects.specs.declared.templates.Query.{Query}
-use Rattle.objects.specs.declared.templates.Query.the-variants.{Ask, Refused}
-use Rattle.objects.specs.declared.templates.Search.{Search}
-use Rattle.objects.specs.declared.templates.Update.{Update}
-use Rattle.objects.specs.declared.templates.Update.the-variants.{Write as Writing, Refused as NoWrite}
-use Rattle.objects.specs.declared.templates.Reference.{Reference}
-use Rattle.objects.specs.declared.templates.Reference.the-variants.{Named as NamedBy, Refused as NoName}
-use Rattle.objects.specs.declared.templates.Writes.{Writes}
+use Rattle.templates.specs.Search.{readSearch}
+use Rattle.templates.specs.Update.{readUpdate}
+use Rattle.templates.specs.Reference.{readReference}
+use Rattle.templates.specs.declared.Query.{Query}
+use Rattle.templates.specs.declared.Query.the-variants.{Ask, Refused}
+use Rattle.templates.specs.declared.Search.{Search}
+use Rattle.templates.specs.declared.Update.{Update}
+use Rattle.templates.specs.declared.Update.the-variants.{Write as Writing, Refused as NoWrite}
+use Rattle.templates.specs.declared.Reference.{Reference}
+use Rattle.templates.specs.declared.Reference.the-variants.{Named as NamedBy, Refused as NoName}
+use Rattle.templates.specs.declared.Writes.{Writes}
 use Rattle.objects.specs.Encoding.{Bytes}
-use Rattle.objects.proofs.Searches.{search-sound}
+use Rattle.templates.proofs.Searches.{search-sound}
 use Rattle.files.specs.Files.{content, kindOf}
 use Rattle.files.specs.declared.File.{File}
 use Rattle.files.specs.declared.File.the-variants.{Missing, Info, Dir, Records, Biometrics}

@@ -6,9 +6,9 @@ use lib.ListN.{length, getD}
 use lib.Dec.{leb, eqb}
 use Rattle.base.specs.Choice.{pick}
 use Rattle.base.specs.Bytes.{part}
-use Rattle.objects.specs.Reference.{readReference}
-use Rattle.objects.specs.declared.templates.Reference.{Reference}
-use Rattle.objects.specs.declared.templates.Reference.the-variants.{Named as NamedBy, Refused}
+use Rattle.templates.specs.Reference.{readReference}
+use Rattle.templates.specs.declared.Reference.{Reference}
+use Rattle.templates.specs.declared.Reference.the-variants.{Named as NamedBy, Refused}
 use Rattle.files.specs.declared.File.{File}
 use Rattle.session.specs.Order.{inOrder}
 use Rattle.session.specs.Reach.{isRecords, reach}

@@ -5,10 +5,10 @@ use lib.ListN.{length, getD}
 use lib.Dec.{leb, eqb}
 use Rattle.base.specs.Choice.{pick, every}
 use Rattle.base.specs.Bytes.{part}
-use Rattle.objects.specs.Search.{readSearch}
-use Rattle.objects.specs.declared.templates.Query.{Query}
-use Rattle.objects.specs.declared.templates.Query.the-variants.{Ask, Refused}
-use Rattle.objects.specs.declared.templates.Search.{Search}
+use Rattle.templates.specs.Search.{readSearch}
+use Rattle.templates.specs.declared.Query.{Query}
+use Rattle.templates.specs.declared.Query.the-variants.{Ask, Refused}
+use Rattle.templates.specs.declared.Search.{Search}
 use Rattle.files.specs.declared.File.{File}
 use Rattle.files.specs.declared.File.the-variants.{Missing, Info, Dir, Records, Biometrics}
 use Rattle.session.specs.Order.{inOrder}

@@ -5,10 +5,10 @@ use lib.Dec.{leb, eqb}
 use Rattle.base.specs.Choice.{pick}
 use Rattle.store.specs.Biometrics.{written, room}
 use Rattle.store.specs.Image.{body}
-use Rattle.objects.specs.Update.{readUpdate}
-use Rattle.objects.specs.declared.templates.Update.{Update}
-use Rattle.objects.specs.declared.templates.Update.the-variants.{Write as Writing, Refused}
-use Rattle.objects.specs.declared.templates.Writes.{Writes}
+use Rattle.templates.specs.Update.{readUpdate}
+use Rattle.templates.specs.declared.Update.{Update}
+use Rattle.templates.specs.declared.Update.the-variants.{Write as Writing, Refused}
+use Rattle.templates.specs.declared.Writes.{Writes}
 use Rattle.files.specs.Files.{kindOf}
 use Rattle.files.specs.declared.File.{File}
 use Rattle.session.specs.Order.{inOrder}

@@ -3,12 +3,11 @@ use crate::Decision;
 use crate::tests;
 use apdu::Frame;
 use files::File;
-use objects::templates;
-use objects::templates::Reference;
 use session::Named;
 use session::Reached;
 use session::Session;
 use session::Task;
+use templates::Reference;
 ghost use mathlib.Core.Path.{_≡_};
 ghost use Rattle.decision.specs.Fmm.{lcFits, reportOf, fmmNamed, fmmFile, fmm};
 

@@ -13,10 +13,10 @@ pub mod update_binary;
 use apdu::Apdu;
 use apdu::Frame;
 use files::File;
-use objects::templates::Search;
-use objects::templates::Writes;
 use session::Session;
 use store::rules::Rule;
+use templates::Search;
+use templates::Writes;
 ghost use mathlib.Core.Path.{_≡_};
 ghost use Rattle.decision.specs.Decide.{byIns, byOwnIns, byClass, decide};
 

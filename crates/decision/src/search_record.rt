@@ -3,15 +3,14 @@ use crate::Decision;
 use crate::tests;
 use apdu::Frame;
 use files::File;
-use objects::templates;
-use objects::templates::Query;
-use objects::templates::Search;
 use session::Named;
 use session::Reached;
 use session::Session;
 use session::Task;
+use templates::Query;
+use templates::Search;
 ghost use mathlib.Core.Path.{_≡_};
-ghost use Rattle.objects.specs.declared.templates.Query.the-variants.{Ask};
+ghost use Rattle.templates.specs.declared.Query.the-variants.{Ask};
 ghost use Rattle.decision.specs.SearchRecord.{searchNamed, searchAt, searchData, searchRecord};
 
 fn search_named(v: &[u8]) -> Named

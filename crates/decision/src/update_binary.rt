@@ -3,19 +3,18 @@ use crate::Decision;
 use crate::tests;
 use apdu::Frame;
 use files::File;
-use objects::templates;
-use objects::templates::Update;
-use objects::templates::Writes;
 use session::Named;
 use session::Reached;
 use session::Session;
 use session::Task;
 use store::biometrics;
 use store::image;
+use templates::Update;
+use templates::Writes;
 ghost use mathlib.Core.Path.{_≡_};
 ghost use Prim.Native.Nat.{_+_};
 ghost use lib.Dec.{leb};
-ghost use Rattle.objects.specs.declared.templates.Update.the-variants.{Write as Writing};
+ghost use Rattle.templates.specs.declared.Update.the-variants.{Write as Writing};
 ghost use Rattle.decision.specs.UpdateBinary.{updateNamed, updateAt, updateData, updateBinary};
 
 fn update_named(i: usize) -> Named

@@ -1,11 +1,11 @@
-// Cases of objects::head, objects::number, objects::templates and the depth of objects::reader.
+// Cases of objects::head, objects::number, templates and the depth of objects::reader.
 use crate::say;
 use objects::head::Head;
-use objects::templates::Place;
-use objects::templates::Query;
-use objects::templates::Reference;
-use objects::templates::Search;
-use objects::templates::Update;
+use templates::Place;
+use templates::Query;
+use templates::Reference;
+use templates::Search;
+use templates::Update;
 
 // Objects inside one another, four and five deep.
 const FOUR: [[u16; 5]; 4] = [
@@ -66,7 +66,7 @@ fn asked(q: Search) {
 
 fn search(s: &[u8]) {
     say::word(b"search");
-    match objects::templates::read_search(s) {
+    match templates::read_search(s) {
         Query::Ask(q) => asked(q),
         Query::Refused => say::word(b" refused"),
     }
@@ -74,7 +74,7 @@ fn search(s: &[u8]) {
 
 fn update(s: &[u8]) {
     say::word(b"update");
-    match objects::templates::read_update(s) {
+    match templates::read_update(s) {
         Update::Write(w) => {
             let bytes = w.bytes;
             say::number(w.offset);
@@ -86,7 +86,7 @@ fn update(s: &[u8]) {
 
 fn reference(s: &[u8]) {
     say::word(b"reference");
-    match objects::templates::read_reference(s) {
+    match templates::read_reference(s) {
         Reference::Named(p) => place(p),
         Reference::Refused => say::word(b" refused"),
     }

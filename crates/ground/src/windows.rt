@@ -1,19 +1,19 @@
-// Cases of objects::window.
+// Cases of window.
 use crate::say;
 
 fn window(record: &[u8], offset: usize, number: usize) {
     say::word(b"window");
-    say::bytes(objects::window::window(record, offset, number));
+    say::bytes(window::window(record, offset, number));
 }
 
 fn occurs(bytes: &[u8], text: &[u8]) {
     say::word(b"occurs");
-    say::flag(objects::window::occurs(bytes, text));
+    say::flag(window::occurs(bytes, text));
 }
 
 fn matches(record: &[u8], offset: usize, number: usize, text: &[u8]) {
     say::word(b"matches");
-    say::flag(objects::window::matches(record, offset, number, text));
+    say::flag(window::matches(record, offset, number, text));
 }
 
 // Answers a case; whether it is one of these.

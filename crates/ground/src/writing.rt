@@ -1,21 +1,21 @@
-// Cases of objects::writer. The number that is written is one of b's bytes, the highest first.
+// Cases of writer. The number that is written is one of b's bytes, the highest first.
 use crate::say;
 use objects::number::number;
 
 fn fewest(n: usize) {
     say::word(b"fewest");
-    say::number(objects::writer::fewest(n));
+    say::number(writer::fewest(n));
 }
 
 fn put_head(out: &mut [u8], at: usize, tag: usize, b: &[u8]) {
     say::word(b"put_head");
-    say::number(objects::writer::put_head(out, at, tag, number(b)));
+    say::number(writer::put_head(out, at, tag, number(b)));
     say::bytes(out);
 }
 
 fn put_number(out: &mut [u8], at: usize, tag: usize, b: &[u8]) {
     say::word(b"put_number");
-    say::number(objects::writer::put_number(out, at, (tag % 256) as u8, number(b)));
+    say::number(writer::put_number(out, at, (tag % 256) as u8, number(b)));
     say::bytes(out);
 }
 

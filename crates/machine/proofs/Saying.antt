@@ -14,8 +14,8 @@ use Rattle.base.specs.Bytes.{put}
 use Rattle.base.proofs.Runs.{fits-yes, put-yes}
 use Rattle.store.specs.Body.{count}
 use Rattle.store.specs.Image.{updateIn}
-use Rattle.objects.specs.Writer.{after}
-use Rattle.objects.proofs.Writings.{put-behind, after-yes}
+use Rattle.writer.specs.Writer.{after}
+use Rattle.writer.proofs.Writings.{put-behind, after-yes}
 use Rattle.replies.specs.Joined.{recordsData}
 use Rattle.replies.specs.Report.{reportData}
 use Rattle.replies.proofs.Bounds.{records-bound}

@@ -10,7 +10,7 @@ use Rattle.base.specs.Bytes.{part}
 use Rattle.store.specs.Body.{walked}
 use Rattle.store.specs.Image.{body, recordsOf, wellFormed}
 use Rattle.store.specs.declared.rules.Rule.{Rule}
-use Rattle.objects.specs.declared.templates.Search.{Search}
+use Rattle.templates.specs.declared.Search.{Search}
 use Rattle.files.specs.declared.File.the-variants.{Records}
 use Rattle.session.specs.Order.{inOrder}
 use Rattle.session.specs.Session.{placed}

@@ -17,14 +17,14 @@ use Rattle.store.specs.Rules.{rules, rowOf, firstOf as firstOf-store, ruleOf, a
 use Rattle.objects.specs.Encoding.{Bytes, perhaps, encode, Sized, leaves, leafCount, deep, Follows, Proper}
 use Rattle.objects.specs.Form.{formIn, formOf, readForm, readBy, firstOf as firstOf-objects}
 use Rattle.objects.specs.Head.{lengthOf, headOf}
-use Rattle.objects.specs.Number.{big, bytesIn, bytesOf, shortest}
+use Rattle.writer.specs.Number.{big, bytesIn, bytesOf, shortest}
 use Rattle.objects.specs.Places.{numberOf as numberOf-objects}
-use Rattle.objects.specs.Reference.{referenceData, readReference}
-use Rattle.objects.specs.Search.{searchData, readSearch}
-use Rattle.objects.specs.Update.{updateData, readUpdate}
-use Rattle.objects.specs.Window.{begins, occursIn, windowOf, matchesIn}
-use Rattle.objects.specs.Writer.{headBytes, after}
-use Rattle.objects.specs.Writing.{lengthBytes, tagBytes, tlv}
+use Rattle.templates.specs.Reference.{referenceData, readReference}
+use Rattle.templates.specs.Search.{searchData, readSearch}
+use Rattle.templates.specs.Update.{updateData, readUpdate}
+use Rattle.window.specs.Window.{begins, occursIn, windowOf, matchesIn}
+use Rattle.writer.specs.Writer.{headBytes, after}
+use Rattle.writer.specs.Writing.{lengthBytes, tagBytes, tlv}
 use Rattle.files.specs.Files.{biometricsById, byId, byShort, idOf, kindOf, content as content-files}
 use Rattle.files.specs.Master.{info, aid, entry, entryOf, entries, dir}
 use Rattle.rights.specs.Chain.{certificate, joinedBytes, joined as joined-rights, clearedBytes, cleared, noRights, effective, sameBytes, same, isCleared}

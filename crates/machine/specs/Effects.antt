@@ -7,7 +7,7 @@ use Rattle.base.specs.Bytes.{part}
 use Rattle.store.specs.Body.{count}
 use Rattle.store.specs.Image.{body, recordsOf, appendTo, updateIn, activateIn}
 use Rattle.store.specs.declared.rules.Rule.{Rule}
-use Rattle.objects.specs.declared.templates.Search.{Search}
+use Rattle.templates.specs.declared.Search.{Search}
 use Rattle.files.specs.Files.{idOf, kindOf, content}
 use Rattle.files.specs.declared.File.the-variants.{Records}
 use Rattle.replies.specs.Joined.{recordsData}

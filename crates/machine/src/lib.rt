@@ -2,13 +2,13 @@
 use apdu::Apdu;
 use decision::Decision;
 use files::File;
-use objects::templates::Search;
 use session::Place;
 use session::Refusal;
 use session::Session;
 use store::body;
 use store::image;
 use store::rules::Rule;
+use templates::Search;
 ghost use mathlib.Core.Path.{_≡_};
 ghost use mathlib.Core.Bool.{true};
 ghost use mathlib.Core.List.{[], _++_};

@@ -11,7 +11,7 @@ use lib.Dec.{ltb, eqb, lit<}
 use borrow.Author.Tests.{lt-ltb, le-ltb, ne-eqb, ltb-true, ltb-false, eqb-true, eqb-false}
 use Rattle.base.specs.Choice.{pick}
 use Rattle.base.proofs.Cases.{by-cases, false-true}
-use Rattle.objects.specs.Writing.{lengthBytes, tagBytes, tlv}
+use Rattle.writer.specs.Writing.{lengthBytes, tagBytes, tlv}
 use Rattle.objects.specs.Head.{headOf}
 use Rattle.objects.specs.Form.{Form, done, plain, maybe, nested, isClean, fresh, spoilt, noted, onHead, ofSize, onValue, readForm, readBy}
 use Rattle.objects.specs.Encoding.{Bytes, Perhaps, absent, present, perhaps, Values, encode, SizedP, Sized, leaves, leafCount, deep, Follows, Proper}

@@ -10,7 +10,7 @@ use lib.Dec.{ltb, leb, eqb, lit≤}
 use borrow.Author.Tests.{lt-ltb, le-ltb, le-leb, eq-eqb, ne-eqb, ltb-true, ltb-false, leb-true, eqb-true, eqb-false, not-true}
 use Rattle.base.specs.Choice.{pick}
 use Rattle.base.proofs.Cases.{by-cases, pick-ind}
-use Rattle.objects.specs.Writing.{lengthBytes, tagBytes}
+use Rattle.writer.specs.Writing.{lengthBytes, tagBytes}
 use Rattle.objects.specs.Head.{bodyIn, lengthOf, headOf, pastBy}
 use Rattle.objects.specs.Encoding.{Bytes, apart}
 use Rattle.objects.specs.declared.head.Head.{Head}

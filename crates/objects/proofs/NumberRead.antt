@@ -8,7 +8,7 @@ use lib.ListN.{length, take, getD}
 use lib.Seq.{take-suc, take-all}
 use native.Mathlib.Nat.{lt-of-lt-of-le}
 use lib.Pow.{pow-add, pow-mono}
-use Rattle.objects.specs.Number.{bigFrom, big}
+use Rattle.writer.specs.Number.{bigFrom, big}
 use Rattle.objects.specs.Places.{numberOf}
 
 big-snoc : (a : ℕ) (l : List ℕ) (b : ℕ) → bigFrom a (l ++ (b ∷ [])) ≡ bigFrom a l * 256 + b

@@ -6,7 +6,7 @@ use mathlib.Core.Bool.{true}
 use native.Mathlib.Omega.{arith}
 use lib.ListN.{length, getD}
 use Rattle.base.proofs.Cases.{by-cases}
-use Rattle.objects.specs.Number.{big}
+use Rattle.writer.specs.Number.{big}
 use Rattle.objects.specs.Form.{Form, isClean, readBy}
 use Rattle.objects.specs.Encoding.{Bytes, Values, encode, Sized, leaves, leafCount, deep, Proper}
 use Rattle.objects.specs.Places.{numberOf, numberAt, answered, Placed, Noted, Taken}

@@ -6,7 +6,7 @@ use mathlib.Core.Bool.{true}
 use native.Mathlib.Omega.{arith}
 use lib.ListN.{length, take, drop, length-append}
 use lib.Seq.{drop-at, take-at}
-use Rattle.objects.specs.Writing.{lengthBytes, tagBytes, tlv}
+use Rattle.writer.specs.Writing.{lengthBytes, tagBytes, tlv}
 use Rattle.objects.specs.Head.{headOf}
 use Rattle.objects.specs.Form.{Form, done, plain, maybe, nested}
 use Rattle.objects.specs.Encoding.{Perhaps, absent, present, perhaps, Values, encode, apart, Follows, Proper}

@@ -6,7 +6,7 @@ use mathlib.Core.Bool.{Bool, true, not}
 use lib.ListN.{length, getD}
 use lib.Dec.{ltb, eqb}
 use Rattle.base.specs.Choice.{pick}
-use Rattle.objects.specs.Writing.{tlv}
+use Rattle.writer.specs.Writing.{tlv}
 use Rattle.objects.specs.Form.{Form, done, plain, maybe, nested}
 
 -- every element is a byte

@@ -6,21 +6,16 @@ use mathlib.Core.Bool.{true}
 use lib.ListN.{length, take, getD}
 use Rattle.base.specs.Choice.{pick}
 use Rattle.base.specs.Bytes.{part}
-use Rattle.objects.specs.Number.{big}
+use Rattle.writer.specs.Number.{big}
 use Rattle.objects.specs.Form.{Form, isClean, readBy}
 use Rattle.objects.specs.Encoding.{Values, encode, Sized, leaves}
 use Rattle.objects.specs.declared.reader.Reading.{Reading}
-use Rattle.objects.specs.declared.templates.Place.{Place}
 
 -- the number that a value of up to eight bytes is, the highest byte first; of a longer one, that of its first eight bytes
 unfoldable pub numberOf : List ℕ → ℕ
 numberOf v = big (take 8 v)
 
--- the k-th place that r notes
-abbrev pub placeAt : Reading → ℕ → Place
-placeAt r k = record { at = getD (r .starts) k 0; len = getD (r .lens) k 0 }
-
--- the number that stands there
+-- the number that stands at the k-th place that r notes
 abbrev pub numberAt : List ℕ → Reading → ℕ → ℕ
 numberAt s r k = numberOf (part s (getD (r .starts) k 0) (getD (r .lens) k 0))
 

@@ -12,9 +12,9 @@ use Rattle.base.specs.Choice.{every}
 use Rattle.base.specs.Bytes.{put}
 use Rattle.base.proofs.Cases.{by-cases}
 use Rattle.base.proofs.Runs.{sets-append, put-yes}
-use Rattle.objects.specs.Writing.{tagBytes, lengthBytes, tlv}
-use Rattle.objects.specs.Writer.{headBytes, after}
-use Rattle.objects.proofs.Writings.{wrote-none as nothing, head-value}
+use Rattle.writer.specs.Writing.{tagBytes, lengthBytes, tlv}
+use Rattle.writer.specs.Writer.{headBytes, after}
+use Rattle.writer.proofs.Writings.{wrote-none as nothing, head-value}
 use Rattle.replies.specs.Found.{listed, foundData, reply, foundLength}
 use Rattle.replies.proofs.Storing.{Wrote, wrote-none, wrote-run, wrote-put, wrote-after, wrote-all, wrote-length, no-room}
 use Rattle.replies.proofs.Sizes.{object-size, small-size, short-size, one-size, two-size}

@@ -12,7 +12,7 @@ use lib.ListN.{length, getD, take, length-append, length-take}
 use lib.Seq.{getD-take}
 use Rattle.base.specs.Choice.{pick}
 use Rattle.base.proofs.Cases.{by-cases, pick-ind, false-true}
-use Rattle.objects.specs.Window.{matchesIn}
+use Rattle.window.specs.Window.{matchesIn}
 use Rattle.store.specs.Body.{nth}
 use Rattle.replies.specs.Found.{isMatch, matchingTo, matching, hits}
 

@@ -8,11 +8,11 @@ use lib.Dec.{lit≤, eqb}
 use borrow.Author.Tests.{eq-eqb, ne-eqb}
 use Rattle.base.specs.Bytes.{put}
 use Rattle.base.proofs.Cases.{by-cases}
-use Rattle.objects.specs.Number.{bytesOf, shortest}
-use Rattle.objects.specs.Writing.{tagBytes, tlv}
-use Rattle.objects.specs.Writer.{headBytes, after}
-use Rattle.objects.proofs.Numbers.{most-bytes}
-use Rattle.objects.proofs.Writings.{wrote-none as nothing, head-value}
+use Rattle.writer.specs.Number.{bytesOf, shortest}
+use Rattle.writer.specs.Writing.{tagBytes, tlv}
+use Rattle.writer.specs.Writer.{headBytes, after}
+use Rattle.writer.proofs.Numbers.{most-bytes}
+use Rattle.writer.proofs.Writings.{wrote-none as nothing, head-value}
 use Rattle.replies.specs.Report.{asked, reportData}
 use Rattle.replies.proofs.Storing.{wrote-none, wrote-after, wrote-all, no-room}
 use Rattle.replies.proofs.Sizes.{object-size, short-size, number-size}

@@ -7,9 +7,9 @@ use lib.ListN.{length, length-append}
 use lib.Dec.{ltb}
 use borrow.Author.Tests.{lt-ltb, le-ltb}
 use Rattle.base.proofs.Cases.{pick-ind}
-use Rattle.objects.specs.Number.{bytesOf, shortest}
-use Rattle.objects.specs.Writing.{tagBytes, lengthBytes, tlv}
-use Rattle.objects.proofs.Numbers.{length-digits, most-bytes}
+use Rattle.writer.specs.Number.{bytesOf, shortest}
+use Rattle.writer.specs.Writing.{tagBytes, lengthBytes, tlv}
+use Rattle.writer.proofs.Numbers.{length-digits, most-bytes}
 
 -- "00 to 7F; 81 for 80 to FF; 82 for 0100 up"
 module _ (n : ℕ) where

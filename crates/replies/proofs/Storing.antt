@@ -9,8 +9,8 @@ use lib.ListN.{length, length-append}
 use lib.Seq.{sets, length-sets}
 use Rattle.base.specs.Bytes.{fits, put}
 use Rattle.base.proofs.Runs.{sets-append, fits-yes, fits-no, put-yes, put-no}
-use Rattle.objects.specs.Writer.{after}
-use Rattle.objects.proofs.Writings.{after-yes, after-no}
+use Rattle.writer.specs.Writer.{after}
+use Rattle.writer.proofs.Writings.{after-yes, after-no}
 
 -- b stands at the start of what was `out`, and r is the place behind it
 pub record Wrote (out b : List ℕ) (r : ℕ) (last : List ℕ) : Type 0 where

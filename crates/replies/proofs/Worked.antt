@@ -3,9 +3,9 @@ use Prim.Native.Nat.{ℕ}
 use mathlib.Core.Path.{_≡_, refl}
 use mathlib.Core.Bool.{false}
 use mathlib.Core.List.{List, [], _∷_}
-use Rattle.objects.specs.Number.{bytesIn, bytesOf, shortest}
-use Rattle.objects.specs.Window.{begins, occursIn, windowOf, matchesIn}
-use Rattle.objects.specs.Writing.{lengthBytes, tagBytes, tlv}
+use Rattle.writer.specs.Number.{bytesIn, bytesOf, shortest}
+use Rattle.window.specs.Window.{begins, occursIn, windowOf, matchesIn}
+use Rattle.writer.specs.Writing.{lengthBytes, tagBytes, tlv}
 use Rattle.base.specs.Choice.{every}
 use Rattle.store.specs.Little.{le16}
 use Rattle.store.specs.Body.{count, place, used, nth}

@@ -7,8 +7,8 @@ use lib.ListN.{length, take, replicate}
 use lib.Seq.{sets}
 use lib.Dec.{leb}
 use Rattle.base.specs.Choice.{pick, every}
-use Rattle.objects.specs.Window.{matchesIn}
-use Rattle.objects.specs.Writing.{tlv}
+use Rattle.window.specs.Window.{matchesIn}
+use Rattle.writer.specs.Writing.{tlv}
 use Rattle.store.specs.Body.{nth}
 
 -- record n matches

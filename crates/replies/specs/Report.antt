@@ -5,8 +5,8 @@ use mathlib.Core.List.{List, [], _++_}
 use lib.ListN.{length}
 use lib.Dec.{eqb}
 use Rattle.base.specs.Choice.{pick}
-use Rattle.objects.specs.Number.{shortest}
-use Rattle.objects.specs.Writing.{tlv}
+use Rattle.writer.specs.Number.{shortest}
+use Rattle.writer.specs.Writing.{tlv}
 use Rattle.store.specs.Body.{count, used}
 use Rattle.store.specs.Biometrics.{room}
 use Rattle.store.specs.Image.{body}

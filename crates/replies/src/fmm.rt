@@ -2,7 +2,6 @@
 use crate::natural::lesser;
 use crate::natural::without;
 use files::File;
-use objects::writer;
 use store::biometrics;
 use store::body;
 use store::image;
@@ -10,7 +9,7 @@ ghost use mathlib.Core.Path.{_≡_};
 ghost use Prim.Native.Nat.{_+_, _/_, _≤_};
 ghost use lib.ListN.{length};
 ghost use Rattle.base.specs.Bytes.{put};
-ghost use Rattle.objects.specs.Writer.{after};
+ghost use Rattle.writer.specs.Writer.{after};
 ghost use Rattle.replies.specs.Report.{capacity, further, total, remaining, existing, asked, reportData};
 
 // The bytes that records can have in a body: "L − 2 − 2·count".

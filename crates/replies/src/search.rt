@@ -1,14 +1,12 @@
 // SEARCH RECORD: the numbers of the records that match, and the reply that lists them.
 use crate::natural::lesser;
-use objects::window;
-use objects::writer;
 use store::body;
 ghost use mathlib.Core.Path.{_≡_};
 ghost use Prim.Native.Nat.{_+_, _*_, _≤_};
 ghost use lib.ListN.{length, getD, take};
 ghost use lib.Seq.{sets};
 ghost use Rattle.base.specs.Bytes.{put};
-ghost use Rattle.objects.specs.Writer.{after};
+ghost use Rattle.writer.specs.Writer.{after};
 ghost use Rattle.store.specs.Body.{walked};
 ghost use Rattle.replies.specs.Found.{hits, kept, listed, foundLength, reply};
 

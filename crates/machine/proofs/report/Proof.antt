@@ -1,6 +1,6 @@
 -- `machine::report` meets its contract.
 use borrow.Author.Needs.{needs}
-use Rattle.objects.proofs.Writings.{wrote}
+use Rattle.writer.proofs.Writings.{wrote}
 use Rattle.replies.proofs.Bounds.{report-bound}
 use Rattle.machine.specs.Effects.{done}
 use Rattle.machine.proofs.Saying.{said, stored, same-report}

@@ -4,7 +4,7 @@ use mathlib.Core.List.{List}
 use Prim.Native.Nat.{ℕ}
 use lib.ListN.{length, getD}
 use borrow.Author.Needs.{needs}
-use Rattle.objects.proofs.Writings.{wrote}
+use Rattle.writer.proofs.Writings.{wrote}
 use Rattle.session.specs.Session.{placed}
 use Rattle.session.specs.declared.Place.the-variants.{Record as OnRecord}
 use Rattle.machine.proofs.Saying.{said, said-only, stored}

@@ -6,7 +6,7 @@ use native.Mathlib.Omega.{arith}
 use mathlib.Core.Path.{_≡_, refl}
 use lib.ListN.{length, take}
 use lib.Dec.{lit<}
-use Rattle.objects.specs.Number.{big}
+use Rattle.writer.specs.Number.{big}
 use Rattle.objects.proofs.NumberRead.{small, more-bits, big-more, number-end, number-eight}
 
 abbrev Inv-loop : tie.InvT-loop

@@ -1,6 +1,6 @@
 -- Two bytes and the number's, or none.
 use native.Mathlib.Omega.{arith}
-use Rattle.objects.proofs.Numbers.{most-bytes}
+use Rattle.writer.proofs.Numbers.{most-bytes}
 use Rattle.replies.proofs.Reporting.{asked-length, asked-none}
 use borrow.Author.Needs.{needs}
 use Rattle.replies.proofs.fmm.asked_length.Statement.{statement}

@@ -1,6 +1,6 @@
 -- The number's object, or nothing.
 use mathlib.Core.Path.{sym}
-use Rattle.objects.proofs.Writings.{wrote, wrote-none}
+use Rattle.writer.proofs.Writings.{wrote, wrote-none}
 use Rattle.replies.proofs.Reporting.{asked-yes, asked-no}
 use borrow.Author.Needs.{needs}
 use Rattle.replies.proofs.fmm.put_asked.Statement.{statement}

@@ -2,7 +2,7 @@
 use native.Mathlib.Omega.{arith}
 use mathlib.Core.Path.{ap}
 use lib.ListN.{length-take}
-use Rattle.objects.proofs.Writings.{wrote}
+use Rattle.writer.proofs.Writings.{wrote}
 use Rattle.replies.specs.Found.{reply}
 use borrow.Author.Needs.{needs}
 use Rattle.replies.proofs.search.put_first.Statement.{statement}

@@ -1,0 +1,5 @@
+-- Laws of the data of commands that proofs cite.
+pub mod Answers
+pub mod References
+pub mod Updates
+pub mod Searches

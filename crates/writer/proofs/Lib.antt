@@ -1,0 +1,3 @@
+-- Laws of written data objects that proofs cite.
+pub mod Numbers
+pub mod Writings

@@ -1,0 +1,4 @@
+-- What the contracts of writing data objects cite.
+pub mod Number
+pub mod Writing
+pub mod Writer
