@@ -4,4 +4,3 @@ pub mod Reaching
 pub mod Seeking
 pub mod Carrying
 pub mod Worked
-pub mod Alone

@@ -1,8 +1,9 @@
 -- Laws of steps in order, and of the file that steps 7 to 9 reach.
 use Prim.Native.Nat.{ℕ}
-use mathlib.Core.Path.{_≡_}
+use mathlib.Core.Path.{_≡_, refl}
 use mathlib.Core.Bool.{Bool, true, false}
 use mathlib.Core.List.{List, [], _∷_}
+use lib.Dec.{eqb}
 use Rattle.base.specs.Choice.{pick}
 use Rattle.base.proofs.Cases.{pick-ind}
 use Rattle.files.specs.Files.{byId, byShort}
@@ -35,23 +36,23 @@ unfolding inOrder
 in-order P [] a e h = h tt
 in-order P (c ∷ cs) a e h = pick-ind P (c .0) (λ t. in-order P cs a (e .1) (λ p. h (t, p))) (λ t. e .0)
 
--- what is reached stands in the image, suits the task and is permitted
+-- what is reached stands in the image, suits the task and is permitted; where none is, the word is not 9000
 pub record FileReached (img : List ℕ) (s : Session) (t : Task) (f : File) : Type 0 where
   pub ok : FileOk img f
   pub suited : suits t f ≡ true
   pub allowed : permitted img s t f ≡ true
 
 abbrev pub ReachedOk : List ℕ → Session → Task → Reached → Type 0
-ReachedOk img s t (Stop w) = Unit {0}
+ReachedOk img s t (Stop w) = eqb w 0x9000 ≡ false
 ReachedOk img s t (At f) = FileReached img s t f
 
 module _ (img : List ℕ) (s : Session) (t : Task) where
   file-ok : (f : File) → FileOk img f → ReachedOk img s t (reachFile img s t f)
   unfolding reachFile
-  file-ok f o = in-order (ReachedOk img s t) _ (At f) (tt, (tt, (tt, tt))) (λ p. record { ok = o; suited = p .1 .0; allowed = p .1 .1 .0 })
+  file-ok f o = in-order (ReachedOk img s t) _ (At f) (refl, (refl, (refl, tt))) (λ p. record { ok = o; suited = p .1 .0; allowed = p .1 .1 .0 })
 
   place-ok : (p : Place) → ReachedOk img s t (reachPlace img s t p)
-  place-ok Nothing = tt
+  place-ok Nothing = refl
   place-ok (OnFile i) = file-ok (byId img (s .application) i) (by-id-ok img (s .application) i)
   place-ok (OnRecord i n) = file-ok (byId img (s .application) i) (by-id-ok img (s .application) i)
 

@@ -1,0 +1,8 @@
+-- Proofs of the promises: the theorems are in Promises.
+pub mod Keeping
+pub mod Opening
+pub mod Growing
+pub mod Answering
+pub mod Reading
+pub mod Searching
+pub mod Promises

@@ -1,0 +1,32 @@
+-- The theorems: each proves the promise of its name in ../specs/Promises.antt.
+use mathlib.Core.Path.{sym, _∙_}
+use Rattle.promises.specs.Promises.{Says-no, Opens, Holds, Number-kept, Reads-history, Leaves-none-out, One-outcome, One-opening}
+use Rattle.promises.proofs.Keeping.{step-kept}
+use Rattle.promises.proofs.Opening.{opening-opened}
+use Rattle.promises.proofs.Growing as growing
+use Rattle.promises.proofs.Reading as reading
+use Rattle.promises.proofs.Searching as searching
+
+pub says-no : Says-no
+says-no = step-kept
+
+pub opens : Opens
+opens = opening-opened
+
+pub holds : Holds
+holds = growing.calls-held
+
+pub number-kept : Number-kept
+number-kept = growing.number-kept
+
+pub reads-history : Reads-history
+reads-history = reading.reads-history
+
+pub leaves-none-out : Leaves-none-out
+leaves-none-out = searching.leaves-none-out
+
+pub one-outcome : One-outcome
+one-outcome img s cmd buf o p e f = e ∙ sym f
+
+pub one-opening : One-opening
+one-opening rights a b e f = e ∙ sym f

@@ -1,0 +1,131 @@
+-- READ RECORD returns the records of a file's history.
+use Prim.Native.Nat.{ℕ, _+_, _/_, _%_, _≤_}
+use mathlib.Core.Path.{_≡_, refl, sym, ap, ap₂, subst, _∙_}
+use mathlib.Core.Bool.{Bool, true, false}
+use mathlib.Core.List.{List, [], _∷_}
+use native.Mathlib.Omega.{arith}
+use lib.ListN.{length, take}
+use lib.Seq.{take-all}
+use lib.Dec.{eqb}
+use borrow.Author.Tests.{eqb-true, eq-eqb, ne-eqb, leb-true}
+use Rattle.base.specs.Choice.{pick, every}
+use Rattle.base.specs.Bytes.{part}
+use Rattle.base.proofs.Cases.{by-cases, false-true, held}
+use Rattle.store.specs.Body.{count, nth}
+use Rattle.store.specs.Rules.{ruleOf, isBiometrics}
+use Rattle.store.specs.Image.{body, wellFormed, recordsOf}
+use Rattle.store.specs.declared.rules.Key.the-variants.{Kind}
+use Rattle.store.specs.declared.rules.Rule.{Rule}
+use Rattle.store.specs.declared.rules.Ruled.{Ruled}
+use Rattle.store.specs.declared.rules.Ruled.the-variants.{Is, Nothing}
+use Rattle.store.proofs.Laws.{rule-regular, biometrics-unruled, records-count, record-file, record-size}
+use Rattle.files.specs.declared.File.the-variants.{Records}
+use Rattle.session.specs.declared.Session.{Session}
+use Rattle.session.specs.declared.Task.{Task}
+use Rattle.session.specs.declared.Task.the-variants.{ReadRecords}
+use Rattle.session.proofs.Steps.{FileReached}
+use Rattle.apdu.specs.Shape.{shapeOf}
+use Rattle.apdu.specs.declared.Apdu.{Apdu}
+use Rattle.apdu.specs.declared.Apdu.the-variants.{Good}
+use Rattle.apdu.specs.declared.Frame.{Frame}
+use Rattle.decision.specs.Decide.{decide, dataBy, dataOf}
+use Rattle.decision.specs.declared.Decision.{Decision}
+use Rattle.decision.specs.declared.Decision.the-variants.{Status, Enter, Choose, Bytes, Write, Activate, Append, Read, Seek, Report}
+use Rattle.decision.proofs.Allowing.{Pair, From, FromShape, ReadBy, decide-from}
+use Rattle.replies.specs.Joined.{joined, recordsData}
+use Rattle.replies.proofs.Joining.{joined-one}
+use Rattle.replies.proofs.Bounds.{records-bound}
+use Rattle.machine.specs.Outcome.{Outcome, says}
+use Rattle.machine.specs.Effects.{done}
+use Rattle.machine.specs.Step.{step}
+use Rattle.promises.specs.Calls.{Call, after, isPair, history}
+use Rattle.promises.specs.Promises.{dataIn, Reads, Reads-history}
+use Rattle.promises.proofs.Answering.{data-said, step-taken, taken-room, status-taken}
+use Rattle.promises.proofs.Growing.{calls-held}
+
+-- a record file that is reached is no biometrics file
+pub reached-records : (img : List ℕ) (s : Session) (t : Task) (r : Rule) → FileReached img s t (Records r) → isBiometrics (r .kind) ≡ false
+reached-records img s t r f =
+    by-cases (isBiometrics (r .kind))
+    (λ b. absurd (is-not (sym (biometrics-unruled (r .kind) b) ∙ f .ok .by-kind)))
+    (λ b. b)
+  where
+    is-not : Nothing ≡ Is r → ⊥
+    is-not e = let z : _≡_ {A = ℕ} 0 1 = cc in omega arith
+
+module _ (img : List ℕ) (s : Session) (cmd buf : List ℕ) (f : Frame) (o : wellFormed img ≡ true) (room : 2050 ≤ length buf) where
+  abbrev d : List ℕ
+  d = part cmd (f .from) (f .lc)
+
+  -- one record is shorter than the cut
+  whole : (r : Rule) (n : ℕ) → FileReached img s ReadRecords (Records r) → 1 ≤ n → n ≤ count (body img (r .kind)) → recordsData (recordsOf img (r .kind)) n n ≡ nth (recordsOf img (r .kind)) n
+  unfolding recordsData recordsOf
+  whole r n g l h =
+      let b = record-file img (r .kind) r o (g .ok .by-kind) (g .ok .stands) in
+      let z = record-size (r .longest) (r .most) (body img (r .kind)) b n l h in
+      let m = rule-regular (Kind (r .kind)) r (g .ok .by-kind) in
+      ap (take 2048) (joined-one (recordsOf img (r .kind)) n l) ∙ take-all 2048 (nth (recordsOf img (r .kind)) n) (omega (arith, z .1, m .long))
+
+  -- what is answered, and of which records
+  read-said : (r : Rule) (a b : ℕ) → dataIn (done (Read r a b) img s d buf) ≡ recordsData (recordsOf img (r .kind)) a b
+  unfolding done
+  read-said r a b = data-said 0x9000 (recordsData (recordsOf img (r .kind)) a b) _ img buf (records-bound (recordsOf img (r .kind)) a b) room
+
+  -- by the records that the file has
+  reads : (rs : ℕ → List (List ℕ)) → ((k : ℕ) → isBiometrics k ≡ false → recordsOf img k ≡ rs k) → (r : Rule) (a b : ℕ) → ReadBy img s f r a b → Reads img s f rs (done (Read r a b) img s d buf)
+  unfolding recordsOf
+  reads rs same r a b h =
+      let g = h .readable .file in
+      let e = same (r .kind) (reached-records img s ReadRecords r g) in
+      let c : length (recordsOf img (r .kind)) ≡ count (body img (r .kind)) = records-count (body img (r .kind)) in
+      let l = leb-true 1 a (h .readable .first) in
+      let m = leb-true a (count (body img (r .kind))) (h .readable .last) in
+      let n : length (recordsOf img (r .kind)) ≡ length (rs (r .kind)) = ap length e in
+      record {
+        rule = r;
+        number = a;
+        file = h .at;
+        named = h .first;
+        low = l;
+        high = omega arith;
+        one = λ t. let u : b ≡ a = h .last ∙ ap (λ (x : Bool). pick x a (count (body img (r .kind)))) (eq-eqb _ _ t) in
+            read-said r a b
+            ∙ ap (recordsData (recordsOf img (r .kind)) a) u
+            ∙ whole r a g l m
+            ∙ ap (λ (z : List (List ℕ)). nth z a) e;
+        onward = λ t. let u : b ≡ length (rs (r .kind)) = h .last ∙ ap (λ (x : Bool). pick x a (count (body img (r .kind)))) (ne-eqb _ _ t) ∙ sym c ∙ n in
+            read-said r a b ∙ ap₂ (λ (z : List (List ℕ)) (k : ℕ). recordsData z a k) e u;
+      }
+
+  -- a READ RECORD that is answered 9000 came to reading records
+  other : {A : Type 0} (c i : ℕ) → Pair f c i → isPair f 0x00 0xB2 ≡ true → every (eqb c 0x00 ∷ eqb i 0xB2 ∷ []) ≡ false → A
+  unfolding isPair
+  other c i p q e =
+      false-true
+      (sym e ∙ sym (ap₂ (λ (x y : ℕ). every (eqb x 0x00 ∷ eqb y 0xB2 ∷ [])) (eqb-true (f .header .cla) c (p .0)) (eqb-true (f .header .ins) i (p .1))) ∙ q)
+
+  read-decided : (rs : ℕ → List (List ℕ)) → ((k : ℕ) → isBiometrics k ≡ false → recordsOf img k ≡ rs k) → isPair f 0x00 0xB2 ≡ true → (x : Decision) → From img s f d x
+      → done x img s d buf .answer .status ≡ 0x9000 → Reads img s f rs (done x img s d buf)
+  unfolding every
+  read-decided rs same q (Status w) h e = false-true (sym h ∙ eq-eqb w 0x9000 (unfold done says in e))
+  read-decided rs same q (Enter a) h e = other 0x00 0xA4 h q refl
+  read-decided rs same q (Choose g) h e = other 0x00 0xA4 (h .0) q refl
+  read-decided rs same q (Bytes g a n) h e = other 0x00 0xB0 (h .0) q refl
+  read-decided rs same q (Write g w) h e = other 0x00 0xD7 (h .0) q refl
+  read-decided rs same q (Activate g) h e = other 0x00 0x44 (h .0) q refl
+  read-decided rs same q (Append r) h e = other 0x00 0xE2 (h .0) q refl
+  read-decided rs same q (Read r a b) h e = reads rs same r a b h
+  read-decided rs same q (Seek r a n) h e = other 0x00 0xA2 (h .pair) q refl
+  read-decided rs same q (Report g n) h e = other 0x80 0x5E (h .0) q refl
+
+pub reads-history : Reads-history
+reads-history img calls s cmd buf f o e q t =
+    let now = after img calls in
+    let h = calls-held img calls o in
+    let x = status-taken now s cmd buf t in
+    let u : step now s cmd buf ≡ done (decide now s cmd) now s (part cmd (f .from) (f .lc)) buf =
+    step-taken now s cmd buf x ∙ ap (λ (l : List ℕ). done (decide now s cmd) now s l buf) (unfold dataOf in ap (dataBy cmd) e) in
+    let c : From now s f (part cmd (f .from) (f .lc)) (decide now s cmd) = subst (λ (a : Apdu). FromShape now s cmd a (decide now s cmd)) e (decide-from now s cmd) in
+    subst (Reads now s f (λ k. history k img calls)) (sym u)
+    (read-decided now s cmd buf f (h .well) (taken-room now s buf x) (λ k. history k img calls) (h .records) q (decide now s cmd) c
+    (sym (ap (λ (z : Outcome). z .answer .status) u) ∙ t))

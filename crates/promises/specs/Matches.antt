@@ -1,0 +1,20 @@
+-- "A record matches when the string occurs anywhere inside its window", said of the bytes alone.
+use Prim.Native.Nat.{ℕ, _≤_}
+use mathlib.Core.Path.{_≡_}
+use mathlib.Core.List.{List, _++_}
+use lib.ListN.{length}
+use Rattle.window.specs.Window.{windowOf}
+use Rattle.store.specs.Body.{nth}
+use Rattle.templates.specs.declared.Search.{Search}
+
+-- the text stands somewhere in w
+pub record Stands (text w : List ℕ) : Type 0 where
+  pub before : List ℕ
+  pub behind : List ℕ
+  pub is : w ≡ before ++ (text ++ behind)
+
+-- record n of a list of records, counted from 1, matches what q asks for
+pub record Matches (rs : List (List ℕ)) (q : Search) (text : List ℕ) (n : ℕ) : Type 0 where
+  pub low : 1 ≤ n
+  pub high : n ≤ length rs
+  pub stands : Stands text (windowOf (nth rs n) (q .offset) (q .number))

@@ -1,0 +1,160 @@
+-- The promises. Each is a type; the theorem of the same name, in ../proofs/Promises.antt, is its proof.
+use Prim.Native.Nat.{ℕ, _-_, _/_, _%_, _≤_, _<_}
+use mathlib.Core.Path.{_≡_}
+use mathlib.Core.Bool.{true, false}
+use mathlib.Core.Logic.{_⊎_}
+use mathlib.Core.List.{List, [], _∷_, _++_, List·Memᴰ}
+use lib.ListN.{length, take, drop, getD, replicate}
+use lib.Dec.{eqb}
+use Rattle.base.specs.Bytes.{part}
+use Rattle.store.specs.Body.{nth}
+use Rattle.store.specs.Rules.{isBiometrics}
+use Rattle.store.specs.Image.{wellFormed, recordsOf}
+use Rattle.store.specs.declared.rules.Rule.{Rule}
+use Rattle.objects.specs.Encoding.{Bytes}
+use Rattle.templates.specs.declared.Search.{Search}
+use Rattle.files.specs.declared.File.the-variants.{Records}
+use Rattle.session.specs.Refusals.{numberOf, refusal}
+use Rattle.session.specs.Session.{opened}
+use Rattle.session.specs.Reach.{reach}
+use Rattle.session.specs.declared.Session.{Session}
+use Rattle.session.specs.declared.Refusal.the-variants.{Taken}
+use Rattle.session.specs.declared.Task.the-variants.{ReadRecords}
+use Rattle.session.specs.declared.Reached.the-variants.{At}
+use Rattle.apdu.specs.Shape.{shapeOf}
+use Rattle.apdu.specs.declared.Apdu.the-variants.{Good}
+use Rattle.apdu.specs.declared.Frame.{Frame}
+use Rattle.decision.specs.Tests.{orCurrent}
+use Rattle.decision.specs.ReadRecord.{recordNamed}
+use Rattle.decision.specs.Decide.{decide, dataOf}
+use Rattle.decision.specs.declared.Decision.the-variants.{Seek}
+use Rattle.replies.specs.Joined.{recordsData}
+use Rattle.replies.specs.Found.{foundData}
+use Rattle.machine.specs.Outcome.{Outcome}
+use Rattle.machine.specs.Step.{step, opening}
+use Rattle.machine.specs.declared.Answer.{Answer}
+use Rattle.promises.specs.Calls.{Call, after, isPair, history}
+use Rattle.promises.specs.Matches.{Matches}
+
+-- ---- 1. "When your chip says no, what has it changed?"
+
+-- what every outcome of a command leaves of the image, the session and the buffer that came in
+pub record Kept (img : List ℕ) (s : Session) (buf : List ℕ) (o : Outcome) : Type 0 where
+  -- "Except on 9000, image and session stay exactly as they came"
+  pub image-kept : (o .answer .status ≡ 0x9000 → ⊥) → o .image ≡ img
+  pub session-kept : (o .answer .status ≡ 0x9000 → ⊥) → o .answer .session ≡ s
+  -- "the response buffer changes only where the answer stands"
+  pub rest-kept : drop (o .answer .length) (o .buffer) ≡ drop (o .answer .length) buf
+  pub size-kept : length (o .buffer) ≡ length buf
+  -- "one of four refusal numbers"; number 0 means none
+  pub number : numberOf (o .answer .refusal) ≤ 4
+  -- a refusal: "length 0, status 0 and the given session .. and touches no buffer"
+  pub refused : 1 ≤ numberOf (o .answer .refusal)
+      → (o .answer .length ≡ 0) × (o .answer .status ≡ 0) × (o .answer .session ≡ s) × (o .image ≡ img) × (o .buffer ≡ buf)
+
+abbrev pub Says-no : Type 0
+Says-no = (img : List ℕ) (s : Session) (cmd buf : List ℕ) → Kept img s buf (step img s cmd buf)
+
+-- "Opening has no buffer and always returns length 0 and status 0": it takes 60 bytes, or is refused with number 3 and the session
+-- that 60 zero bytes open
+pub record Opened (rights : List ℕ) (a : Answer) : Type 0 where
+  pub nothing : (a .length ≡ 0) × (a .status ≡ 0)
+  pub taken : length rights ≡ 60 → numberOf (a .refusal) ≡ 0
+  pub refused : (length rights ≡ 60 → ⊥) → (numberOf (a .refusal) ≡ 3) × (a .session ≡ opened (replicate 60 0))
+
+abbrev pub Opens : Type 0
+Opens = (rights : List ℕ) → Opened rights (opening rights)
+
+-- ---- 2. "Can you show that record 7 is still the record 7 that was written, after any commands at all?"
+
+-- over any calls the image stays well formed, and the records of each file are its history. k is any kind but a biometrics file's,
+-- which has no records; the six record files of document 01 are such kinds
+pub record Held (img : List ℕ) (calls : List Call) : Type 0 where
+  pub well : wellFormed (after img calls) ≡ true
+  pub records : (k : ℕ) → isBiometrics k ≡ false → recordsOf (after img calls) k ≡ history k img calls
+
+abbrev pub Holds : Type 0
+Holds = (img : List ℕ) (calls : List Call) → wellFormed img ≡ true → Held img calls
+
+-- so a record that is there once is there under its number for ever
+abbrev pub Number-kept : Type 0
+Number-kept =
+    (img : List ℕ) (calls later : List Call) (k n : ℕ)
+    → wellFormed img ≡ true
+    → isBiometrics k ≡ false
+    → n ≤ length (recordsOf (after img calls) k)
+    → nth (recordsOf (after img (calls ++ later)) k) n ≡ nth (recordsOf (after img calls) k) n
+
+-- the data of an answer stands before its status word
+abbrev pub dataIn : Outcome → List ℕ
+dataIn o = take (o .answer .length - 2) (o .buffer)
+
+-- READ RECORD of a file with the records rs: the number asked for is one of them, and the answer is that record, or the records from
+-- there to the last, joined and "cut at 2,048 bytes"
+pub record Reads (img : List ℕ) (s : Session) (f : Frame) (rs : ℕ → List (List ℕ)) (o : Outcome) : Type 0 where
+  pub rule : Rule
+  pub number : ℕ
+  pub file : reach img s ReadRecords (orCurrent (f .header .p2 / 8)) ≡ At (Records rule)
+  pub named : number ≡ recordNamed s (Records rule) (f .header .p1)
+  pub low : 1 ≤ number
+  pub high : number ≤ length (rs (rule .kind))
+  pub one : f .header .p2 % 8 ≡ 4 → dataIn o ≡ nth (rs (rule .kind)) number
+  pub onward : (f .header .p2 % 8 ≡ 4 → ⊥) → dataIn o ≡ recordsData (rs (rule .kind)) number (length (rs (rule .kind)))
+
+-- READ RECORD that answers 9000, after any calls
+abbrev pub Reads-history : Type 0
+Reads-history =
+    (img : List ℕ) (calls : List Call) (s : Session) (cmd buf : List ℕ) (f : Frame)
+    → wellFormed img ≡ true
+    → shapeOf cmd ≡ Good f
+    → isPair f 0x00 0xB2 ≡ true
+    → step (after img calls) s cmd buf .answer .status ≡ 0x9000
+    → Reads (after img calls) s f (λ k. history k img calls) (step (after img calls) s cmd buf)
+
+-- ---- 3. "that a search leaves none out?"
+
+-- "taken, well formed, permitted": no refusal, and the tests of steps 1 to 9 all hold, so that it comes to a search of the file of a
+-- rule, as q asks, for a reply of up to ne bytes
+pub record Searching (img : List ℕ) (s : Session) (cmd buf : List ℕ) (r : Rule) (q : Search) (ne : ℕ) : Type 0 where
+  pub taken : refusal img s (length buf) ≡ Taken
+  pub permitted : decide img s cmd ≡ Seek r q ne
+
+-- each number is above the one before it, and so stands once
+abbrev pub Ascending : ℕ → List ℕ → Type 0
+Ascending b [] = Unit {0}
+Ascending b (x ∷ l) = (b < x) × Ascending x l
+
+-- what the outcome of a search names, where the file has the records rs
+pub record Names (rs : List (List ℕ)) (q : Search) (text file : List ℕ) (ne : ℕ) (o : Outcome) : Type 0 where
+  pub numbers : List ℕ
+  -- "exactly the records of that list that match, each once, ascending"
+  pub ascending : Ascending 0 numbers
+  pub right : (n : ℕ) → List·Memᴰ n numbers → Matches rs q text n
+  pub whole : q .one ≡ false → (n : ℕ) → Matches rs q text n → List·Memᴰ n numbers
+  -- "or only the first when only the first is asked for"
+  pub first : q .one ≡ true → (n : ℕ) → Matches rs q text n → (length numbers ≡ 1) × (getD numbers 0 0 ≤ n)
+  -- the reply, where it fits
+  pub reply : (n : ℕ) → Matches rs q text n → length (foundData file numbers) ≤ ne
+      → (o .answer .status ≡ 0x9000) × (dataIn o ≡ foundData file numbers)
+  -- "It answers 6282 exactly when none matches", with no data
+  pub none : ((n : ℕ) → Matches rs q text n → ⊥) → (o .answer .status ≡ 0x6282) × (o .answer .length ≡ 2)
+  pub some : o .answer .status ≡ 0x6282 → (n : ℕ) → Matches rs q text n → ⊥
+
+-- a search after any calls, of bytes; the string and the file reference are the command's
+abbrev pub Leaves-none-out : Type 0
+Leaves-none-out =
+    (img : List ℕ) (calls : List Call) (s : Session) (cmd buf : List ℕ) (r : Rule) (q : Search) (ne : ℕ)
+    → wellFormed img ≡ true
+    → Bytes cmd
+    → Searching (after img calls) s cmd buf r q ne
+    → Names (history (r .kind) img calls) q (part (dataOf cmd) (q .text .at) (q .text .len)) (part (dataOf cmd) (q .file .at) (q .file .len)) ne
+    (step (after img calls) s cmd buf)
+
+-- ---- 4. Nothing is left open: two outcomes that meet the contract of the same call are equal
+
+-- the contract of `machine::command` says of an outcome that it is `step`'s, and that of `machine::open` that the answer is `opening`'s
+abbrev pub One-outcome : Type 0
+One-outcome = (img : List ℕ) (s : Session) (cmd buf : List ℕ) (o p : Outcome) → o ≡ step img s cmd buf → p ≡ step img s cmd buf → o ≡ p
+
+abbrev pub One-opening : Type 0
+One-opening = (rights : List ℕ) (a b : Answer) → a ≡ opening rights → b ≡ opening rights → a ≡ b
