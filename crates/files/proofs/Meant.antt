@@ -8,13 +8,13 @@ use lib.Dec.{leb, eqb}
 use borrow.Author.Tests.{leb-true, le-leb, eqb-true}
 use Rattle.base.specs.Choice.{pick, every}
 use Rattle.base.proofs.Cases.{pick-ind, held, all-held}
-use Rattle.store.specs.Rules.{biometrics, ruleOf, isBiometrics}
+use Rattle.bodies.specs.Rules.{biometrics, ruleOf, isBiometrics}
 use Rattle.store.specs.Image.{has}
-use Rattle.store.specs.declared.rules.Key.{Key}
-use Rattle.store.specs.declared.rules.Key.the-variants.{Kind, Id, Short}
-use Rattle.store.specs.declared.rules.Rule.{Rule}
-use Rattle.store.specs.declared.rules.Ruled.{Ruled}
-use Rattle.store.specs.declared.rules.Ruled.the-variants.{Is, Nothing}
+use Rattle.bodies.specs.declared.rules.Key.{Key}
+use Rattle.bodies.specs.declared.rules.Key.the-variants.{Kind, Id, Short}
+use Rattle.bodies.specs.declared.rules.Rule.{Rule}
+use Rattle.bodies.specs.declared.rules.Ruled.{Ruled}
+use Rattle.bodies.specs.declared.rules.Ruled.the-variants.{Is, Nothing}
 use Rattle.store.proofs.Laws.{rule-regular}
 use Rattle.files.specs.Files.{ruled, biometricsById, byId, byShort}
 use Rattle.files.specs.declared.File.{File}

@@ -4,12 +4,12 @@ use Prim.Native.Nat.{ℕ, _+_, _-_}
 use mathlib.Core.List.{List, [], _∷_}
 use lib.Dec.{leb, eqb}
 use Rattle.base.specs.Choice.{pick, every}
-use Rattle.store.specs.Rules.{ruleOf, biometrics}
+use Rattle.bodies.specs.Rules.{ruleOf, biometrics}
 use Rattle.store.specs.Image.{has, body}
-use Rattle.store.specs.Biometrics as bio
-use Rattle.store.specs.declared.rules.Key.the-variants.{Id, Short}
-use Rattle.store.specs.declared.rules.Ruled.{Ruled}
-use Rattle.store.specs.declared.rules.Ruled.the-variants.{Is, Nothing}
+use Rattle.bodies.specs.Biometrics as bio
+use Rattle.bodies.specs.declared.rules.Key.the-variants.{Id, Short}
+use Rattle.bodies.specs.declared.rules.Ruled.{Ruled}
+use Rattle.bodies.specs.declared.rules.Ruled.the-variants.{Is, Nothing}
 use Rattle.files.specs.Master.{info, dir}
 use Rattle.files.specs.declared.File.{File}
 use Rattle.files.specs.declared.File.the-variants.{Missing, Info, Dir, Records, Biometrics}

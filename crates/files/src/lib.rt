@@ -1,10 +1,10 @@
 // The files of a card: which file an id or a short id means, and what a transparent file holds.
-use store::biometrics;
+use bodies::biometrics;
+use bodies::rules;
+use bodies::rules::Key;
+use bodies::rules::Rule;
+use bodies::rules::Ruled;
 use store::image;
-use store::rules;
-use store::rules::Key;
-use store::rules::Rule;
-use store::rules::Ruled;
 ghost use mathlib.Core.Path.{_≡_};
 ghost use mathlib.Core.List.{List};
 ghost use Prim.Native.Nat.{ℕ, _+_, _≤_, _<_};

@@ -1,25 +1,25 @@
-// Cases of store::biometrics.
+// Cases of bodies::biometrics.
 use crate::say;
 
 // State, written length, room and content, and whether the body is well formed.
 fn read(body: &[u8]) {
     say::word(b"biometrics.read");
-    say::number(store::biometrics::state(body));
-    say::number(store::biometrics::written(body));
-    say::number(store::biometrics::room(body));
-    say::bytes(store::biometrics::content(body));
-    say::flag(store::biometrics::well_formed(body));
+    say::number(bodies::biometrics::state(body));
+    say::number(bodies::biometrics::written(body));
+    say::number(bodies::biometrics::room(body));
+    say::bytes(bodies::biometrics::content(body));
+    say::flag(bodies::biometrics::well_formed(body));
 }
 
 fn update(body: &mut [u8], offset: usize, written: &[u8]) {
     say::word(b"biometrics.update");
-    say::flag(store::biometrics::update(body, offset, written));
+    say::flag(bodies::biometrics::update(body, offset, written));
     say::bytes(body);
 }
 
 fn activate(body: &mut [u8]) {
     say::word(b"biometrics.activate");
-    say::flag(store::biometrics::activate(body));
+    say::flag(bodies::biometrics::activate(body));
     say::bytes(body);
 }
 

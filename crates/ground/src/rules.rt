@@ -1,9 +1,9 @@
-// Cases of store::rules.
+// Cases of bodies::rules.
 use crate::say;
-use store::rules::Key;
-use store::rules::Ruled;
-use store::rules::look;
-use store::rules::row;
+use bodies::rules::Key;
+use bodies::rules::Ruled;
+use bodies::rules::look;
+use bodies::rules::row;
 
 fn rule(found: Ruled) {
     match found {
@@ -41,7 +41,7 @@ fn by_place(i: usize) {
 
 fn kind_ok(kind: usize, body: &[u8]) {
     say::word(b"rules.kind_ok");
-    say::flag(store::rules::kind_ok(kind, body));
+    say::flag(bodies::rules::kind_ok(kind, body));
 }
 
 // Answers a case; whether it is one of these.

@@ -18,10 +18,10 @@ use Rattle.session.specs.Refusals.{refusal}
 use Rattle.session.specs.declared.Session.{Session}
 use Rattle.session.specs.declared.Refusal.{Refusal}
 use Rattle.session.specs.declared.Refusal.the-variants.{Taken, ShortBuffer, BadImage, BadRights, BadSession}
-use Rattle.decision.specs.Decide.{byClass, decide, dataOf}
+use Rattle.commands.specs.Decide.{byClass, decide, dataOf}
 use Rattle.decision.specs.declared.Decision.{Decision}
 use Rattle.decision.specs.declared.Decision.the-variants.{Status}
-use Rattle.decision.proofs.Allowing.{Allowed, decide-allowed}
+use Rattle.commands.proofs.Allowing.{Allowed, decide-allowed}
 use Rattle.machine.specs.Effects.{done}
 
 -- a slice holds bytes

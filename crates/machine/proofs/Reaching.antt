@@ -5,10 +5,10 @@ use mathlib.Core.Bool.{true}
 use mathlib.Core.List.{List}
 use native.Mathlib.Omega.{arith}
 use lib.ListN.{length, take, length-take}
-use Rattle.store.specs.Body.{walked, bodyOk}
+use Rattle.bodies.specs.Body.{walked, bodyOk}
 use Rattle.store.specs.Image.{body, recordsOf, wellFormed}
-use Rattle.store.specs.declared.rules.Key.the-variants.{Kind}
-use Rattle.store.specs.declared.rules.Rule.{Rule}
+use Rattle.bodies.specs.declared.rules.Key.the-variants.{Kind}
+use Rattle.bodies.specs.declared.rules.Rule.{Rule}
 use Rattle.store.proofs.Laws.{record-file, rule-regular, walked-records}
 use Rattle.files.specs.declared.File.the-variants.{Records}
 use Rattle.session.specs.declared.Session.{Session}

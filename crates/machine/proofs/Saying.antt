@@ -12,7 +12,7 @@ use borrow.Author.Tests.{le-ltb}
 use Rattle.base.specs.Choice.{pick}
 use Rattle.base.specs.Bytes.{put}
 use Rattle.base.proofs.Runs.{fits-yes, put-yes}
-use Rattle.store.specs.Body.{count}
+use Rattle.bodies.specs.Body.{count}
 use Rattle.store.specs.Image.{updateIn}
 use Rattle.writer.specs.Writer.{after}
 use Rattle.writer.proofs.Writings.{put-behind, after-yes}

@@ -7,9 +7,9 @@ use native.Mathlib.Omega.{arith}
 use lib.ListN.{length, take, getD}
 use borrow.Author.Tests.{le-leb, lt-leb}
 use Rattle.base.specs.Bytes.{part}
-use Rattle.store.specs.Body.{walked}
+use Rattle.bodies.specs.Body.{walked}
 use Rattle.store.specs.Image.{body, recordsOf, wellFormed}
-use Rattle.store.specs.declared.rules.Rule.{Rule}
+use Rattle.bodies.specs.declared.rules.Rule.{Rule}
 use Rattle.templates.specs.declared.Search.{Search}
 use Rattle.files.specs.declared.File.the-variants.{Records}
 use Rattle.session.specs.Order.{inOrder}

@@ -9,11 +9,11 @@ use Rattle.session.specs.declared.Session.{Session}
 use Rattle.session.specs.declared.Place.the-variants.{Record as OnRecord}
 use Rattle.base.specs.Bytes.{splice, fits as fits-base, put}
 use Rattle.base.specs.Choice.{every}
-use Rattle.store.specs.Biometrics.{state, written as written-store-biometrics, room, content as content-store, bioOk, takes as takes-store-biometrics, updated, update, activate as activate-store}
-use Rattle.store.specs.Body.{count, behind, place, firsts, records, nth, walkAt, walkTo, walked, used, fits as fits-store, okAt, okTo, bodyOk, takes as takes-store-body, written as written-store-body, appended, append}
+use Rattle.bodies.specs.Biometrics.{state, written as written-store-biometrics, room, content as content-store, bioOk, takes as takes-store-biometrics, updated, update, activate as activate-store}
+use Rattle.bodies.specs.Body.{count, behind, place, firsts, records, nth, walkAt, walkTo, walked, used, fits as fits-store, okAt, okTo, bodyOk, takes as takes-store-body, written as written-store-body, appended, append}
 use Rattle.store.specs.Image.{findFrom, find, has, there, present, applicationOf, sectionOk, sectionsOk, wellFormed, body, recordsOf, withBody, appendTo as appendTo-store, updateIn, activateIn}
-use Rattle.store.specs.Little.{le16, le32, bytes16, bytes32}
-use Rattle.store.specs.Rules.{rules, rowOf, firstOf as firstOf-store, ruleOf, allRules, isBiometrics, kindOk}
+use Rattle.bodies.specs.Little.{le16, le32, bytes16, bytes32}
+use Rattle.bodies.specs.Rules.{rules, rowOf, firstOf as firstOf-store, ruleOf, allRules, isBiometrics, kindOk}
 use Rattle.objects.specs.Encoding.{Bytes, perhaps, encode, Sized, leaves, leafCount, deep, Follows, Proper}
 use Rattle.objects.specs.Form.{formIn, formOf, readForm, readBy, firstOf as firstOf-objects}
 use Rattle.objects.specs.Head.{lengthOf, headOf}
@@ -34,16 +34,16 @@ use Rattle.session.specs.Reach.{suits, isCertificates, activated, permitted, re
 use Rattle.session.specs.Refusals.{numberOf as numberOf-session, refusal, openRefusal}
 use Rattle.session.specs.Session.{opened, currentId, set, currentRecord, applicationFits, placeFits, fits as fits-session}
 use Rattle.apdu.specs.Shape.{pair, orMost, headerOf, framed, firstOf as firstOf-apdu, shapes, shapeOf}
-use Rattle.decision.specs.Activate.{activate as activate-decision}
-use Rattle.decision.specs.AppendRecord.{appendTo as appendTo-decision, appendRecord}
-use Rattle.decision.specs.Decide.{byIns, byOwnIns, byClass, decide, dataOf}
-use Rattle.decision.specs.Fmm.{reportOf, fmmNamed, fmmFile, lcFits, fmm}
-use Rattle.decision.specs.ReadBinary.{readNamed, readOffset, readAt, readBinary}
-use Rattle.decision.specs.ReadRecord.{recordNamed, readFrom, fourOrFive, allOfRecord, readRecord}
-use Rattle.decision.specs.SearchRecord.{searchNamed, searchRecord}
-use Rattle.decision.specs.Select.{aidOf, selectAid, selectMaster, selectFile, chosenBy, oneOfThree, lengthFits, select}
+use Rattle.transparent.specs.Activate.{activate as activate-decision}
+use Rattle.recordfiles.specs.AppendRecord.{appendTo as appendTo-decision, appendRecord}
+use Rattle.commands.specs.Decide.{byIns, byOwnIns, byClass, decide, dataOf}
+use Rattle.selecting.specs.Fmm.{reportOf, fmmNamed, fmmFile, lcFits, fmm}
+use Rattle.transparent.specs.ReadBinary.{readNamed, readOffset, readAt, readBinary}
+use Rattle.recordfiles.specs.ReadRecord.{recordNamed, readFrom, fourOrFive, allOfRecord, readRecord}
+use Rattle.recordfiles.specs.SearchRecord.{searchNamed, searchRecord}
+use Rattle.selecting.specs.Select.{aidOf, selectAid, selectMaster, selectFile, chosenBy, oneOfThree, lengthFits, select}
 use Rattle.decision.specs.Tests.{lcOnly, leOnly, neither, allLe, two, orCurrent}
-use Rattle.decision.specs.UpdateBinary.{updateNamed, updateAt, updateBinary}
+use Rattle.transparent.specs.UpdateBinary.{updateNamed, updateAt, updateBinary}
 use Rattle.replies.specs.Found.{isMatch, matchingTo, matching, hits, kept, listed, foundData, reply, foundLength}
 use Rattle.replies.specs.Joined.{joined as joined-replies, recordsData}
 use Rattle.replies.specs.Report.{capacity, further, total, remaining, existing, asked, reportData}

@@ -4,9 +4,9 @@ use mathlib.Core.List.{List, [], _∷_}
 use lib.ListN.{length, getD}
 use lib.Dec.{leb}
 use Rattle.base.specs.Bytes.{part}
-use Rattle.store.specs.Body.{count}
+use Rattle.bodies.specs.Body.{count}
 use Rattle.store.specs.Image.{body, recordsOf, appendTo, updateIn, activateIn}
-use Rattle.store.specs.declared.rules.Rule.{Rule}
+use Rattle.bodies.specs.declared.rules.Rule.{Rule}
 use Rattle.templates.specs.declared.Search.{Search}
 use Rattle.files.specs.Files.{idOf, kindOf, content}
 use Rattle.files.specs.declared.File.the-variants.{Records}

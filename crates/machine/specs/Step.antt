@@ -7,7 +7,7 @@ use Rattle.session.specs.Refusals.{refusal, openRefusal}
 use Rattle.session.specs.declared.Session.{Session}
 use Rattle.session.specs.declared.Refusal.{Refusal}
 use Rattle.session.specs.declared.Refusal.the-variants.{Taken, ShortBuffer, BadImage, BadRights, BadSession}
-use Rattle.decision.specs.Decide.{decide, dataOf}
+use Rattle.commands.specs.Decide.{decide, dataOf}
 use Rattle.machine.specs.Outcome.{Outcome, outcome, refused}
 use Rattle.machine.specs.Effects.{done}
 use Rattle.machine.specs.declared.Answer.{Answer}

@@ -1,13 +1,13 @@
 // The command machine: command bytes, rights and card image in; response, status word and image out.
 use apdu::Apdu;
+use bodies::body;
+use bodies::rules::Rule;
 use decision::Decision;
 use files::File;
 use session::Place;
 use session::Refusal;
 use session::Session;
-use store::body;
 use store::image;
-use store::rules::Rule;
 use templates::Search;
 ghost use mathlib.Core.Path.{_≡_};
 ghost use mathlib.Core.Bool.{true};
@@ -20,7 +20,7 @@ ghost use Rattle.decision.specs.declared.Decision.the-variants.{Seek, Read, Rep
 ghost use Rattle.files.specs.Files.{content};
 ghost use Rattle.session.specs.Session.{placed as placedAt, entered as enteredAt};
 ghost use Rattle.session.specs.declared.Refusal.the-variants.{Taken};
-ghost use Rattle.decision.proofs.Allowing.{Allowed};
+ghost use Rattle.commands.proofs.Allowing.{Allowed};
 ghost use Rattle.machine.specs.Outcome.{outcome, word, answered, refused as refusedAs};
 ghost use Rattle.machine.specs.Effects.{sought, done};
 ghost use Rattle.machine.specs.Step.{taken as takenAs, step, opening};
@@ -199,7 +199,7 @@ fn taken(image: &mut [u8], s: Session, command: &[u8], response: &mut [u8]) -> A
         Apdu::Bad => finish(s, 0x6700, 0, response),
         Apdu::Good(f) => {
             let data = base::part(command, f.from, f.lc);
-            let d = decision::by_class(image, s, f, data);
+            let d = commands::by_class(image, s, f, data);
             apply(image, s, d, data, response)
         }
     }

@@ -12,7 +12,7 @@ use Rattle.session.specs.Refusals.{numberOf, refusal}
 use Rattle.session.specs.declared.Session.{Session}
 use Rattle.session.specs.declared.Refusal.{Refusal}
 use Rattle.session.specs.declared.Refusal.the-variants.{Taken, ShortBuffer, BadImage, BadRights, BadSession}
-use Rattle.decision.specs.Decide.{decide, dataOf}
+use Rattle.commands.specs.Decide.{decide, dataOf}
 use Rattle.machine.specs.Outcome.{Outcome, word, says}
 use Rattle.machine.specs.Effects.{done}
 use Rattle.machine.specs.Step.{taken, step}

@@ -11,13 +11,13 @@ use Rattle.base.specs.Choice.{pick, every}
 use Rattle.base.specs.Bytes.{part}
 use Rattle.base.proofs.Cases.{by-cases, pick-ind, false-true, held, all-held}
 use Rattle.base.proofs.Parts.{length-part}
-use Rattle.store.specs.Body.{nth}
-use Rattle.store.specs.Biometrics.{room, takes}
-use Rattle.store.specs.Rules.{ruleOf, isBiometrics}
+use Rattle.bodies.specs.Body.{nth}
+use Rattle.bodies.specs.Biometrics.{room, takes}
+use Rattle.bodies.specs.Rules.{ruleOf, isBiometrics}
 use Rattle.store.specs.Image.{has, body, wellFormed, recordsOf, appendTo, updateIn, activateIn}
-use Rattle.store.specs.declared.rules.Key.the-variants.{Kind}
-use Rattle.store.specs.declared.rules.Rule.{Rule}
-use Rattle.store.specs.declared.rules.Ruled.the-variants.{Is, Nothing}
+use Rattle.bodies.specs.declared.rules.Key.the-variants.{Kind}
+use Rattle.bodies.specs.declared.rules.Rule.{Rule}
+use Rattle.bodies.specs.declared.rules.Ruled.the-variants.{Is, Nothing}
 use Rattle.store.proofs.Laws.{Accepts, Changed, append-changes, append-list, records-kept, biometrics-file, update-changes, activate-changes, nth-kept}
 use Rattle.templates.specs.declared.Writes.{Writes}
 use Rattle.files.specs.Files.{kindOf}
@@ -37,10 +37,10 @@ use Rattle.apdu.specs.declared.Apdu.{Apdu}
 use Rattle.apdu.specs.declared.Apdu.the-variants.{Bad, Good}
 use Rattle.apdu.specs.declared.Frame.{Frame}
 use Rattle.decision.specs.Tests.{orCurrent}
-use Rattle.decision.specs.Decide.{decide, dataBy, dataOf}
+use Rattle.commands.specs.Decide.{decide, dataBy, dataOf}
 use Rattle.decision.specs.declared.Decision.{Decision}
 use Rattle.decision.specs.declared.Decision.the-variants.{Status, Enter, Choose, Bytes, Write, Activate, Append, Read, Seek, Report}
-use Rattle.decision.proofs.Allowing.{Pair, Appends, Writable, From, FromShape, decide-from}
+use Rattle.commands.proofs.Allowing.{Pair, Appends, Writable, From, FromShape, decide-from}
 use Rattle.machine.specs.Outcome.{Outcome, says}
 use Rattle.machine.specs.Effects.{sought, done}
 use Rattle.machine.specs.Step.{taken, step}

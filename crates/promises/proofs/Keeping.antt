@@ -16,7 +16,7 @@ use Rattle.session.specs.declared.Session.{Session}
 use Rattle.session.specs.declared.Refusal.{Refusal}
 use Rattle.session.specs.declared.Refusal.the-variants.{Taken, ShortBuffer, BadImage, BadRights, BadSession}
 use Rattle.session.proofs.Steps.{in-order}
-use Rattle.decision.specs.Decide.{decide, dataOf}
+use Rattle.commands.specs.Decide.{decide, dataOf}
 use Rattle.decision.specs.declared.Decision.{Decision}
 use Rattle.decision.specs.declared.Decision.the-variants.{Status, Enter, Choose, Bytes, Write, Activate, Append, Read, Seek, Report}
 use Rattle.machine.specs.Outcome.{Outcome, outcome, refused, word, says}

@@ -11,13 +11,13 @@ use borrow.Author.Tests.{eqb-true, eq-eqb, ne-eqb, leb-true}
 use Rattle.base.specs.Choice.{pick, every}
 use Rattle.base.specs.Bytes.{part}
 use Rattle.base.proofs.Cases.{by-cases, false-true, held}
-use Rattle.store.specs.Body.{count, nth}
-use Rattle.store.specs.Rules.{ruleOf, isBiometrics}
+use Rattle.bodies.specs.Body.{count, nth}
+use Rattle.bodies.specs.Rules.{ruleOf, isBiometrics}
 use Rattle.store.specs.Image.{body, wellFormed, recordsOf}
-use Rattle.store.specs.declared.rules.Key.the-variants.{Kind}
-use Rattle.store.specs.declared.rules.Rule.{Rule}
-use Rattle.store.specs.declared.rules.Ruled.{Ruled}
-use Rattle.store.specs.declared.rules.Ruled.the-variants.{Is, Nothing}
+use Rattle.bodies.specs.declared.rules.Key.the-variants.{Kind}
+use Rattle.bodies.specs.declared.rules.Rule.{Rule}
+use Rattle.bodies.specs.declared.rules.Ruled.{Ruled}
+use Rattle.bodies.specs.declared.rules.Ruled.the-variants.{Is, Nothing}
 use Rattle.store.proofs.Laws.{rule-regular, biometrics-unruled, records-count, record-file, record-size}
 use Rattle.files.specs.declared.File.the-variants.{Records}
 use Rattle.session.specs.declared.Session.{Session}
@@ -28,10 +28,10 @@ use Rattle.apdu.specs.Shape.{shapeOf}
 use Rattle.apdu.specs.declared.Apdu.{Apdu}
 use Rattle.apdu.specs.declared.Apdu.the-variants.{Good}
 use Rattle.apdu.specs.declared.Frame.{Frame}
-use Rattle.decision.specs.Decide.{decide, dataBy, dataOf}
+use Rattle.commands.specs.Decide.{decide, dataBy, dataOf}
 use Rattle.decision.specs.declared.Decision.{Decision}
 use Rattle.decision.specs.declared.Decision.the-variants.{Status, Enter, Choose, Bytes, Write, Activate, Append, Read, Seek, Report}
-use Rattle.decision.proofs.Allowing.{Pair, From, FromShape, ReadBy, decide-from}
+use Rattle.commands.proofs.Allowing.{Pair, From, FromShape, ReadBy, decide-from}
 use Rattle.replies.specs.Joined.{joined, recordsData}
 use Rattle.replies.proofs.Joining.{joined-one}
 use Rattle.replies.proofs.Bounds.{records-bound}

@@ -12,9 +12,9 @@ use borrow.Author.Tests.{ltb-true, ltb-false}
 use Rattle.base.specs.Choice.{pick}
 use Rattle.base.specs.Bytes.{part}
 use Rattle.base.proofs.Cases.{by-cases, false-true}
-use Rattle.store.specs.Body.{nth}
+use Rattle.bodies.specs.Body.{nth}
 use Rattle.store.specs.Image.{wellFormed, recordsOf}
-use Rattle.store.specs.declared.rules.Rule.{Rule}
+use Rattle.bodies.specs.declared.rules.Rule.{Rule}
 use Rattle.objects.specs.Encoding.{Bytes}
 use Rattle.window.specs.Window.{occursIn, windowOf, matchesIn}
 use Rattle.window.proofs.Occurring.{Occurs, occurs-sound, occurs-complete}
@@ -25,10 +25,10 @@ use Rattle.session.specs.declared.Session.{Session}
 use Rattle.session.specs.declared.Place.the-variants.{Record as OnRecord}
 use Rattle.session.specs.declared.Task.the-variants.{ReadRecords}
 use Rattle.session.proofs.Steps.{FileReached}
-use Rattle.decision.specs.Decide.{decide, dataOf}
+use Rattle.commands.specs.Decide.{decide, dataOf}
 use Rattle.decision.specs.declared.Decision.{Decision}
 use Rattle.decision.specs.declared.Decision.the-variants.{Seek}
-use Rattle.decision.proofs.Allowing.{Allowed, decide-allowed}
+use Rattle.commands.proofs.Allowing.{Allowed, decide-allowed}
 use Rattle.replies.specs.Found.{matching, hits, foundData}
 use Rattle.replies.proofs.Matching.{Up, matching-sound, matching-complete, matching-ascends, matching-none, none-matching, first-match, none-hits, hits-none}
 use Rattle.machine.specs.Outcome.{Outcome, says}

@@ -7,10 +7,10 @@ use mathlib.Core.List.{List, [], _∷_, _++_, List·Memᴰ}
 use lib.ListN.{length, take, drop, getD, replicate}
 use lib.Dec.{eqb}
 use Rattle.base.specs.Bytes.{part}
-use Rattle.store.specs.Body.{nth}
-use Rattle.store.specs.Rules.{isBiometrics}
+use Rattle.bodies.specs.Body.{nth}
+use Rattle.bodies.specs.Rules.{isBiometrics}
 use Rattle.store.specs.Image.{wellFormed, recordsOf}
-use Rattle.store.specs.declared.rules.Rule.{Rule}
+use Rattle.bodies.specs.declared.rules.Rule.{Rule}
 use Rattle.objects.specs.Encoding.{Bytes}
 use Rattle.templates.specs.declared.Search.{Search}
 use Rattle.files.specs.declared.File.the-variants.{Records}
@@ -25,8 +25,8 @@ use Rattle.apdu.specs.Shape.{shapeOf}
 use Rattle.apdu.specs.declared.Apdu.the-variants.{Good}
 use Rattle.apdu.specs.declared.Frame.{Frame}
 use Rattle.decision.specs.Tests.{orCurrent}
-use Rattle.decision.specs.ReadRecord.{recordNamed}
-use Rattle.decision.specs.Decide.{decide, dataOf}
+use Rattle.recordfiles.specs.ReadRecord.{recordNamed}
+use Rattle.commands.specs.Decide.{decide, dataOf}
 use Rattle.decision.specs.declared.Decision.the-variants.{Seek}
 use Rattle.replies.specs.Joined.{recordsData}
 use Rattle.replies.specs.Found.{foundData}

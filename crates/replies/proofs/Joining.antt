@@ -11,7 +11,7 @@ use lib.Dec.{leb, ltb}
 use borrow.Author.Tests.{le-ltb, le-leb, lt-leb, leb-true, leb-false}
 use Rattle.base.specs.Choice.{pick}
 use Rattle.base.proofs.Cases.{by-cases, pick-ind}
-use Rattle.store.specs.Body.{count, recordAt, nth, walkAt, walked}
+use Rattle.bodies.specs.Body.{count, recordAt, nth, walkAt, walked}
 use Rattle.replies.specs.Joined.{joined, recordsData}
 use Rattle.replies.proofs.Storing.{Wrote, wrote-run}
 use Rattle.replies.proofs.Walking.{walked-length, walked-nth}

@@ -13,7 +13,7 @@ use lib.Seq.{getD-take}
 use Rattle.base.specs.Choice.{pick}
 use Rattle.base.proofs.Cases.{by-cases, pick-ind, false-true}
 use Rattle.window.specs.Window.{matchesIn}
-use Rattle.store.specs.Body.{nth}
+use Rattle.bodies.specs.Body.{nth}
 use Rattle.replies.specs.Found.{isMatch, matchingTo, matching, hits}
 
 -- each number of a list is above the one before it, and the first above b

@@ -9,7 +9,7 @@ use lib.ListN.{length, take, set, replicate, length-set, length-append}
 use Rattle.base.proofs.Cases.{by-cases, false-true}
 use Rattle.base.proofs.Runs.{sets-snoc, part-sets}
 use Rattle.window.specs.Window.{matchesIn}
-use Rattle.store.specs.Body.{count, behind, recordAt, walkAt, walked}
+use Rattle.bodies.specs.Body.{count, behind, recordAt, walkAt, walked}
 use Rattle.replies.specs.Found.{isMatch, matchingTo, matching, hits, kept}
 use Rattle.replies.proofs.Walking.{first-length, first-nth, walk-start, walk-turn}
 use Rattle.replies.proofs.Matching.{empty, matching-hit, matching-miss, matching-first}

@@ -9,7 +9,7 @@ use native.Mathlib.Numerals.{add-one}
 use native.Mathlib.Nat.{eq-or-lt-of-le}
 use lib.ListN.{length, getD, take, length-append, length-take, List·getD-append}
 use lib.Seq.{getD-at, getD-take, take-all}
-use Rattle.store.specs.Body.{count, behind, recordAt, nth, walkAt, walkTo, walked, records, bodyOk}
+use Rattle.bodies.specs.Body.{count, behind, recordAt, nth, walkAt, walkTo, walked, records, bodyOk}
 use Rattle.store.proofs.Laws.{body-count, walked-records}
 
 walk-length : (xs : List ℕ) (m : ℕ) → length (walkTo xs m) ≡ m

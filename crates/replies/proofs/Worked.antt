@@ -7,8 +7,8 @@ use Rattle.writer.specs.Number.{bytesIn, bytesOf, shortest}
 use Rattle.window.specs.Window.{begins, occursIn, windowOf, matchesIn}
 use Rattle.writer.specs.Writing.{lengthBytes, tagBytes, tlv}
 use Rattle.base.specs.Choice.{every}
-use Rattle.store.specs.Little.{le16}
-use Rattle.store.specs.Body.{count, place, used, nth}
+use Rattle.bodies.specs.Little.{le16}
+use Rattle.bodies.specs.Body.{count, place, used, nth}
 use Rattle.replies.specs.Joined.{joined, recordsData}
 use Rattle.replies.specs.Found.{isMatch, matchingTo, matching, hits, listed, foundData, foundLength}
 use Rattle.replies.specs.Report.{capacity, further, asked, reportData}

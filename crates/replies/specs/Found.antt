@@ -9,7 +9,7 @@ use lib.Dec.{leb}
 use Rattle.base.specs.Choice.{pick, every}
 use Rattle.window.specs.Window.{matchesIn}
 use Rattle.writer.specs.Writing.{tlv}
-use Rattle.store.specs.Body.{nth}
+use Rattle.bodies.specs.Body.{nth}
 
 -- record n matches
 unfoldable pub isMatch : List (List ℕ) → ℕ → ℕ → List ℕ → ℕ → Bool

@@ -4,7 +4,7 @@ use mathlib.Core.List.{List, [], _++_}
 use lib.ListN.{take}
 use lib.Dec.{leb}
 use Rattle.base.specs.Choice.{pick}
-use Rattle.store.specs.Body.{nth}
+use Rattle.bodies.specs.Body.{nth}
 
 -- the records with the numbers first to last, counted from 1, one behind the other; a number that no record has gives no bytes
 unfoldable pub joined : List (List ℕ) → ℕ → ℕ → List ℕ

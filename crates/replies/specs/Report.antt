@@ -7,8 +7,8 @@ use lib.Dec.{eqb}
 use Rattle.base.specs.Choice.{pick}
 use Rattle.writer.specs.Number.{shortest}
 use Rattle.writer.specs.Writing.{tlv}
-use Rattle.store.specs.Body.{count, used}
-use Rattle.store.specs.Biometrics.{room}
+use Rattle.bodies.specs.Body.{count, used}
+use Rattle.bodies.specs.Biometrics.{room}
 use Rattle.store.specs.Image.{body}
 use Rattle.files.specs.Files.{content}
 use Rattle.files.specs.declared.File.{File}

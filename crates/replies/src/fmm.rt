@@ -1,9 +1,9 @@
 // FILE AND MEMORY MANAGEMENT: a file's three numbers, and the reply that lists those asked for.
 use crate::natural::lesser;
 use crate::natural::without;
+use bodies::biometrics;
+use bodies::body;
 use files::File;
-use store::biometrics;
-use store::body;
 use store::image;
 ghost use mathlib.Core.Path.{_≡_};
 ghost use Prim.Native.Nat.{_+_, _/_, _≤_};

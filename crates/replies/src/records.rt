@@ -1,6 +1,6 @@
 // READ RECORD: the records with some numbers, joined.
 use crate::natural::lesser;
-use store::body;
+use bodies::body;
 ghost use mathlib.Core.Path.{_≡_};
 ghost use mathlib.Core.List.{[]};
 ghost use Prim.Native.Nat.{_+_, _-_, _≤_};
@@ -8,7 +8,7 @@ ghost use lib.ListN.{length, take};
 ghost use lib.Seq.{sets};
 ghost use lib.Dec.{leb, ltb};
 ghost use Rattle.base.specs.Choice.{pick};
-ghost use Rattle.store.specs.Body.{recordAt, walked};
+ghost use Rattle.bodies.specs.Body.{recordAt, walked};
 ghost use Rattle.replies.specs.Joined.{recordsData};
 
 // The most bytes that are returned.

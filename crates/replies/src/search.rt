@@ -1,13 +1,13 @@
 // SEARCH RECORD: the numbers of the records that match, and the reply that lists them.
 use crate::natural::lesser;
-use store::body;
+use bodies::body;
 ghost use mathlib.Core.Path.{_≡_};
 ghost use Prim.Native.Nat.{_+_, _*_, _≤_};
 ghost use lib.ListN.{length, getD, take};
 ghost use lib.Seq.{sets};
 ghost use Rattle.base.specs.Bytes.{put};
 ghost use Rattle.writer.specs.Writer.{after};
-ghost use Rattle.store.specs.Body.{walked};
+ghost use Rattle.bodies.specs.Body.{walked};
 ghost use Rattle.replies.specs.Found.{hits, kept, listed, foundLength, reply};
 
 // The most records of a file, and so the most numbers.

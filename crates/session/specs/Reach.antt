@@ -4,9 +4,9 @@ use Prim.Native.Nat.{ℕ, _+_}
 use mathlib.Core.Bool.{Bool, true, false, not, _&&_}
 use mathlib.Core.List.{List, [], _∷_}
 use lib.Dec.{eqb}
-use Rattle.store.specs.Biometrics.{state}
+use Rattle.bodies.specs.Biometrics.{state}
 use Rattle.store.specs.Image.{body}
-use Rattle.store.specs.declared.rules.Rule.{Rule}
+use Rattle.bodies.specs.declared.rules.Rule.{Rule}
 use Rattle.rights.specs.Rights.{mayRecords, mayBiometrics}
 use Rattle.files.specs.Files.{byId, byShort}
 use Rattle.files.specs.declared.File.{File}

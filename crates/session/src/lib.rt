@@ -1,11 +1,11 @@
 // A session: its rights, the application selected, the current place. Whether it fits an image, which file a command means, and whether
 // the session may do with it what the command asks.
+use bodies::biometrics;
+use bodies::body;
+use bodies::rules::Rule;
 use files::File;
 use rights::Rights;
-use store::biometrics;
-use store::body;
 use store::image;
-use store::rules::Rule;
 ghost use mathlib.Core.Path.{_≡_};
 ghost use mathlib.Core.Bool.{Bool, true, false, not, _&&_};
 ghost use Prim.Native.Nat.{ℕ, _+_, _≤_, _<_};

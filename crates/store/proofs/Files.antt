@@ -7,7 +7,7 @@ use native.Mathlib.Omega.{arith}
 use lib.ListN.{length, take, drop}
 use Rattle.base.specs.Bytes.{part, splice}
 use Rattle.base.proofs.Parts.{part-mid, length-part, put-splice, splice-length, splice-part, splice-same}
-use Rattle.store.specs.Rules.{kindOk}
+use Rattle.bodies.specs.Rules.{kindOk}
 use Rattle.store.specs.Image.{find, isAt, has, present, applicationOf, wellFormed, bodyBy, body, withBodyBy, withBody}
 use Rattle.store.specs.declared.image.Found.{Found}
 use Rattle.store.specs.declared.image.Found.the-variants.{At, Missing}

@@ -12,23 +12,23 @@ use borrow.Author.Tests.{leb-true, eqb-true}
 use Rattle.base.specs.Bytes.{part, splice}
 use Rattle.base.proofs.Cases.{held}
 use Rattle.base.proofs.Parts.{length-part}
-use Rattle.store.specs.Little.{le16}
-use Rattle.store.specs.Body.{count, behind, walkAt, walkTo, walked, firsts, place, recordAt, records, nth, used, fits, bodyOk, takes, appended, append}
-use Rattle.store.specs.Biometrics.{state, written, room, content, bioOk, updated, update, activate}
-use Rattle.store.specs.Biometrics.{takes as takesAt}
-use Rattle.store.specs.Rules.{hasKey, ruleOf, isBiometrics, kindOk}
+use Rattle.bodies.specs.Little.{le16}
+use Rattle.bodies.specs.Body.{count, behind, walkAt, walkTo, walked, firsts, place, recordAt, records, nth, used, fits, bodyOk, takes, appended, append}
+use Rattle.bodies.specs.Biometrics.{state, written, room, content, bioOk, updated, update, activate}
+use Rattle.bodies.specs.Biometrics.{takes as takesAt}
+use Rattle.bodies.specs.Rules.{hasKey, ruleOf, isBiometrics, kindOk}
 use Rattle.store.specs.Image.{find, has, present, applicationOf, wellFormed, body, recordsOf, withBody, appendTo, updateIn, activateIn}
-use Rattle.store.specs.declared.rules.Key.{Key}
-use Rattle.store.specs.declared.rules.Key.the-variants.{Kind}
-use Rattle.store.specs.declared.rules.Rule.{Rule}
-use Rattle.store.specs.declared.rules.Ruled.{Ruled}
-use Rattle.store.specs.declared.rules.Ruled.the-variants.{Is, Nothing}
+use Rattle.bodies.specs.declared.rules.Key.{Key}
+use Rattle.bodies.specs.declared.rules.Key.the-variants.{Kind}
+use Rattle.bodies.specs.declared.rules.Rule.{Rule}
+use Rattle.bodies.specs.declared.rules.Ruled.{Ruled}
+use Rattle.bodies.specs.declared.rules.Ruled.the-variants.{Is, Nothing}
 use Rattle.store.specs.declared.image.Found.the-variants.{At}
-use Rattle.store.proofs.Bodies as bodies
-use Rattle.store.proofs.Appending as appending
-use Rattle.store.proofs.Updating as updating
-use Rattle.store.proofs.Table as table
-use Rattle.store.proofs.ByKind as by-kind
+use Rattle.bodies.proofs.Bodies as bodies
+use Rattle.bodies.proofs.Appending as appending
+use Rattle.bodies.proofs.Updating as updating
+use Rattle.bodies.proofs.Table as table
+use Rattle.bodies.proofs.ByKind as by-kind
 use Rattle.store.proofs.Presence as presence
 use Rattle.store.proofs.Splicing as splicing
 use Rattle.store.proofs.Files as files

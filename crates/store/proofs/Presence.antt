@@ -7,12 +7,12 @@ use lib.ListN.{drop}
 use borrow.Author.Tests.{lt-leb, le-leb, eq-eqb}
 use Rattle.base.specs.Choice.{every}
 use Rattle.base.proofs.Cases.{held}
-use Rattle.store.specs.Rules.{rules, rowOf, ruleOf, allRules}
+use Rattle.bodies.specs.Rules.{rules, rowOf, ruleOf, allRules}
 use Rattle.store.specs.Image.{has, there, present}
-use Rattle.store.specs.declared.rules.Key.{Key}
-use Rattle.store.specs.declared.rules.Rule.{Rule}
-use Rattle.store.specs.declared.rules.Ruled.the-variants.{Is, Nothing}
-use Rattle.store.proofs.Table.{row-cons, row-past, passed}
+use Rattle.bodies.specs.declared.rules.Key.{Key}
+use Rattle.bodies.specs.declared.rules.Rule.{Rule}
+use Rattle.bodies.specs.declared.rules.Ruled.the-variants.{Is, Nothing}
+use Rattle.bodies.proofs.Table.{row-cons, row-past, passed}
 
 module _ (img : List ℕ) (a : ℕ) where
   pub present-low : a < 1 → present img a ≡ false

@@ -10,7 +10,7 @@ use borrow.Author.Tests.{lt-leb, le-leb, leb-true, ltb-true, lt-ltb, le-ltb, eq-
 use Rattle.base.specs.Choice.{every}
 use Rattle.base.specs.Bytes.{part}
 use Rattle.base.proofs.Cases.{held}
-use Rattle.store.specs.Rules.{kindOk}
+use Rattle.bodies.specs.Rules.{kindOk}
 use Rattle.store.specs.Image.{lenAt, kindAt, bodyAt, endAt, choose, findFrom, find, present, applicationOf, sectionOk, sectionsOk, wellFormed}
 use Rattle.store.specs.declared.image.Found.the-variants.{At, Missing}
 

@@ -11,11 +11,11 @@ use borrow.Author.Tests.{lt-leb, leb-true, eqb-true, eqb-false}
 use Rattle.base.specs.Bytes.{part, splice}
 use Rattle.base.proofs.Cases.{and-left, and-right, held}
 use Rattle.base.proofs.Parts.{Agree, part-agree, splice-length, splice-before, splice-after, splice-part}
-use Rattle.store.specs.Rules.{rules, allRules, kindOk}
+use Rattle.bodies.specs.Rules.{rules, allRules, kindOk}
 use Rattle.store.specs.Image.{lenAt, kindAt, bodyAt, endAt, choose, findFrom, find, isAt, has, there, present, applicationOf, sectionOk, sectionsOk, wellFormed}
-use Rattle.store.specs.declared.rules.Rule.{Rule}
+use Rattle.bodies.specs.declared.rules.Rule.{Rule}
 use Rattle.store.specs.declared.image.Found.the-variants.{At, Missing}
-use Rattle.store.proofs.Numbers.{le16-agree, le32-agree}
+use Rattle.bodies.proofs.Numbers.{le16-agree, le32-agree}
 use Rattle.store.proofs.Sections.{section-facts}
 
 -- ---- what a find says

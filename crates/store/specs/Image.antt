@@ -7,11 +7,11 @@ use lib.ListN.{length}
 use lib.Dec.{leb, ltb, eqb}
 use Rattle.base.specs.Choice.{pick, every}
 use Rattle.base.specs.Bytes.{part, splice}
-use Rattle.store.specs.Little.{le16, le32}
-use Rattle.store.specs.Body.{records, append}
-use Rattle.store.specs.Biometrics.{update, activate}
-use Rattle.store.specs.Rules.{travel, visa, biometrics, rules, allRules, kindOk}
-use Rattle.store.specs.declared.rules.Rule.{Rule}
+use Rattle.bodies.specs.Little.{le16, le32}
+use Rattle.bodies.specs.Body.{records, append}
+use Rattle.bodies.specs.Biometrics.{update, activate}
+use Rattle.bodies.specs.Rules.{travel, visa, biometrics, rules, allRules, kindOk}
+use Rattle.bodies.specs.declared.rules.Rule.{Rule}
 use Rattle.store.specs.declared.image.Found.{Found}
 use Rattle.store.specs.declared.image.Found.the-variants.{At, Missing}
 

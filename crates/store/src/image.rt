@@ -1,20 +1,20 @@
 // The image: where the body of a kind stands, which applications are present, and whether the whole is well formed.
-use crate::biometrics;
-use crate::body;
-use crate::little::read16;
-use crate::little::read32;
-use crate::rules::BIOMETRICS;
-use crate::rules::Rule;
-use crate::rules::Ruled;
-use crate::rules::TRAVEL;
-use crate::rules::VISA;
-use crate::rules::kind_ok;
-use crate::rules::row;
+use bodies::biometrics;
+use bodies::body;
+use bodies::little::read16;
+use bodies::little::read32;
+use bodies::rules::BIOMETRICS;
+use bodies::rules::Rule;
+use bodies::rules::Ruled;
+use bodies::rules::TRAVEL;
+use bodies::rules::VISA;
+use bodies::rules::kind_ok;
+use bodies::rules::row;
 ghost use mathlib.Core.Path.{_≡_};
 ghost use Prim.Native.Nat.{_+_, _≤_, _<_};
 ghost use lib.ListN.{length};
-ghost use Rattle.store.specs.Body.{takes};
-ghost use Rattle.store.specs.Biometrics.{bioOk, takes as takesAt};
+ghost use Rattle.bodies.specs.Body.{takes};
+ghost use Rattle.bodies.specs.Biometrics.{bioOk, takes as takesAt};
 ghost use Rattle.store.specs.Image.{find, has, body, there, present, applicationOf, sectionOk, wellFormed, appendTo, updateIn, activateIn};
 
 // Where a section's body begins, and its length.

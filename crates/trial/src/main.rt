@@ -7,9 +7,9 @@
 // 3, a look: the line is the card's image.
 mod say;
 
+use bodies::little::read32;
 use session::Refusal;
 use session::Session;
-use store::little::read32;
 ghost use mathlib.Core.Path.{_≡_};
 ghost use lib.ListN.{length};
 

@@ -5,7 +5,7 @@ use Prim.Native.Nat.{ℕ}
 use denote.Ref.{now}
 use borrow.Author.Needs.{needs}
 use Rattle.base.specs.Bytes.{part}
-use Rattle.store.specs.Biometrics as bio
+use Rattle.bodies.specs.Biometrics as bio
 use Rattle.files.specs.Master.{info}
 use Rattle.files.specs.Files.{content}
 use Rattle.files.proofs.Contents.{stored, part-none}

@@ -3,7 +3,7 @@ use mathlib.Core.Path.{sym, ap, _∙_}
 use lib.ListN.{length}
 use denote.Ref.{now}
 use borrow.Author.Needs.{needs}
-use Rattle.store.specs.Biometrics as bio
+use Rattle.bodies.specs.Biometrics as bio
 use Rattle.files.specs.Master.{info}
 use Rattle.files.specs.Files.{content}
 use Rattle.files.proofs.size.Statement.{statement}

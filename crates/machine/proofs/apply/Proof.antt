@@ -1,7 +1,7 @@
 -- `machine::apply` meets its contract.
 use mathlib.Core.Path.{refl, ap, _∙_}
 use borrow.Author.Needs.{needs}
-use Rattle.store.specs.Body.{count}
+use Rattle.bodies.specs.Body.{count}
 use Rattle.store.specs.Image.{activateIn}
 use Rattle.session.specs.Session.{placed}
 use Rattle.machine.proofs.Saying.{said-only, same-file, same-record, same-update}

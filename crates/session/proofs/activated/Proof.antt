@@ -3,7 +3,7 @@ use Prim.Native.Nat.{ℕ}
 use mathlib.Core.Path.{ap, _∙_}
 use lib.Dec.{eqb}
 use borrow.Author.Needs.{needs}
-use Rattle.store.specs.Biometrics.{state}
+use Rattle.bodies.specs.Biometrics.{state}
 use Rattle.session.specs.Reach.{activated}
 use Rattle.session.proofs.activated.Statement.{statement}
 use Rattle.session.proofs.activated.Tie as tie

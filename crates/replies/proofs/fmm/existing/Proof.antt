@@ -1,6 +1,6 @@
 -- By the kinds of files.
 use mathlib.Core.Path.{sym, ap, _∙_}
-use Rattle.store.specs.Body.{count}
+use Rattle.bodies.specs.Body.{count}
 use Rattle.replies.specs.Report.{existing}
 use borrow.Author.Needs.{needs}
 use Rattle.replies.proofs.fmm.existing.Statement.{statement}

@@ -2,7 +2,7 @@
 use denote.Ref.{now}
 use mathlib.Core.Path.{sym, ap, _∙_}
 use lib.ListN.{length}
-use Rattle.store.specs.Biometrics.{room}
+use Rattle.bodies.specs.Biometrics.{room}
 use Rattle.files.specs.Files.{content}
 use Rattle.replies.specs.Report.{capacity, total}
 use borrow.Author.Needs.{needs}

@@ -4,7 +4,7 @@ use mathlib.Core.Path.{_≡_, refl, ap, _∙_}
 use native.Mathlib.Omega.{arith}
 use borrow.Author.Needs.{needs}
 use borrow.Author.Tests.{lt-ltb}
-use Rattle.store.specs.Body.{count, walkAt, walked}
+use Rattle.bodies.specs.Body.{count, walkAt, walked}
 use Rattle.replies.specs.Joined.{recordsData}
 use Rattle.replies.proofs.Storing.{Wrote, wrote-length}
 use Rattle.replies.proofs.Walking.{walk-start, walk-turn}

@@ -6,9 +6,9 @@ use native.Mathlib.Omega.{arith}
 use lib.ListN.{length}
 use denote.Ref.{now}
 use borrow.Author.Needs.{needs}
-use Rattle.store.specs.Biometrics.{bioOk, activate}
+use Rattle.bodies.specs.Biometrics.{bioOk, activate}
 use Rattle.store.specs.Image.{activateIn}
-use Rattle.store.proofs.Updating.{bio-short, activate-length}
+use Rattle.bodies.proofs.Updating.{bio-short, activate-length}
 use Rattle.store.proofs.Splicing.{found-inside}
 use Rattle.store.proofs.Files.{missing-body, missing-put, lent, come-back}
 use Rattle.store.proofs.image.activate.Statement.{statement}

@@ -4,7 +4,7 @@ use mathlib.Core.Path.{sym, _∙_}
 use native.Mathlib.Omega.{arith}
 use borrow.Author.Needs.{needs}
 use Rattle.base.proofs.Cases.{flag-no, flag-yes}
-use Rattle.store.proofs.Table.{row-end}
+use Rattle.bodies.proofs.Table.{row-end}
 use Rattle.store.proofs.Presence.{Left, present-low, present-high, left-start, left-next, left-missing, left-end}
 use Rattle.store.proofs.image.present.Statement.{statement}
 use Rattle.store.proofs.image.present.Tie as tie

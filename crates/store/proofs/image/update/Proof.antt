@@ -6,9 +6,9 @@ use native.Mathlib.Omega.{arith}
 use lib.ListN.{length}
 use denote.Ref.{now}
 use borrow.Author.Needs.{needs}
-use Rattle.store.specs.Biometrics.{takes, update}
+use Rattle.bodies.specs.Biometrics.{takes, update}
 use Rattle.store.specs.Image.{updateIn}
-use Rattle.store.proofs.Updating.{takes-nothing, update-length}
+use Rattle.bodies.proofs.Updating.{takes-nothing, update-length}
 use Rattle.store.proofs.Splicing.{found-inside}
 use Rattle.store.proofs.Files.{missing-body, missing-put, lent, come-back}
 use Rattle.store.proofs.image.update.Statement.{statement}

@@ -1,0 +1,7 @@
+-- Laws of bodies, by what they are about. Crates above `store` cite those that `store`'s Laws repeat.
+pub mod Numbers
+pub mod Bodies
+pub mod Appending
+pub mod Updating
+pub mod Table
+pub mod ByKind

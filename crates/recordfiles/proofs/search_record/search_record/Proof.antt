@@ -1,0 +1,66 @@
+-- `decision::search_record::search_record` meets its contract.
+use mathlib.Core.Path.{sym, _∙_}
+use mathlib.Core.Bool.{and-false}
+use borrow.Author.Tests.{eq-eqb, ne-eqb, lt-leb, le-leb}
+use borrow.Author.Needs.{needs}
+use Rattle.base.specs.Choice.{every}
+use Rattle.base.proofs.Cases.{flag-no, flag-yes}
+use Rattle.session.specs.Order.{inOrder}
+use Rattle.recordfiles.specs.SearchRecord.{searchRecord}
+use Rattle.recordfiles.proofs.search_record.search_record.Statement.{statement}
+use Rattle.recordfiles.proofs.search_record.search_record.Tie as tie
+
+returns : tie.Need-returns
+unfolding searchRecord inOrder every
+returns c = simp (ne-eqb _ _ (c .if1 .taken))
+
+returns-2 : tie.Need-returns-2
+unfolding searchRecord inOrder every
+returns-2 c = simp (ne-eqb _ _ (c .if2 .taken), and-false)
+
+returns-3 : tie.Need-returns-3
+unfolding searchRecord inOrder every
+returns-3 c = simp (eq-eqb _ _ (c .before .before .before .before .if1 .left), eq-eqb _ _ (c .before .before .if2 .left), lt-leb _ _ (c .if3 .taken))
+
+all-le-requires : tie.Need-all-le-requires
+all-le-requires c κs = search needs
+
+returns-4 : tie.Need-returns-4
+unfolding searchRecord inOrder every
+returns-4 c = simp (eq-eqb _ _ (c .before .before .before .before .before .before .if1 .left), eq-eqb _ _ (c .before .before .before .before .if2 .left), le-leb _ _ (c .before .before .if3 .left), flag-no (c .before .all-le .ensures) (c .if4 .taken))
+
+read-search-requires : tie.Need-read-search-requires
+read-search-requires c κs = search needs
+
+enum-told : tie.Need-enum-told
+enum-told c = search needs
+
+enum-known-q : tie.Need-enum-known-q
+enum-known-q c = search needs
+
+search-data-requires : tie.Need-search-data-requires
+search-data-requires c κs = search needs
+
+returns-5 : tie.Need-returns-5
+unfolding searchRecord inOrder every
+returns-5 c = simp (eq-eqb _ _ (c .before .before .before .before .before .before .before .before .before .if1 .left), eq-eqb _ _ (c .before .before .before .before .before .before .before .if2 .left), le-leb _ _ (c .before .before .before .before .before .if3 .left), flag-yes (c .before .before .before .before .all-le .ensures) (c .before .before .before .if4 .left), sym (c .before .before .read-search .ensures) ∙ c .enum-told .given .1)
+
+returns-6 : tie.Need-returns-6
+unfolding searchRecord inOrder every
+returns-6 c = simp (eq-eqb _ _ (c .before .before .before .before .before .before .before .before .before .before .before .if1 .left), eq-eqb _ _ (c .before .before .before .before .before .before .before .before .before .if2 .left), le-leb _ _ (c .before .before .before .before .before .before .before .if3 .left), flag-yes (c .before .before .before .before .before .before .all-le .ensures) (c .before .before .before .before .before .if4 .left), sym (c .before .before .before .before .read-search .ensures) ∙ c .before .before .q .given .1) (c .search-data .ensures)
+
+pub search-record-spec : {M : Type 1} → statement M
+search-record-spec =
+    tie.close
+    (tie.spec
+    returns
+    returns-2
+    returns-3
+    all-le-requires
+    returns-4
+    read-search-requires
+    enum-told
+    enum-known-q
+    search-data-requires
+    returns-5
+    returns-6)
