@@ -4,7 +4,7 @@ use mathlib.Core.Bool.{Bool, true, false, _&&_}
 use mathlib.Core.List.{List, [], _∷_}
 use lib.ListN.{length, getD, set, replicate}
 use lib.Bits.{bitAnd}
-use lib.Dec.{eqb}
+use lib.Dec.{ltb, eqb}
 use Rattle.base.specs.Choice.{pick, every}
 use Rattle.base.specs.Bytes.{part}
 use Rattle.rights.specs.declared.Rights.{Rights}
@@ -53,6 +53,10 @@ cleared r =
 
 unfoldable pub noRights : Rights
 noRights = record { flags = 0; travel = 0; visa = 0; biometrics = replicate 17 0 }
+
+-- the rights that the first 20 bytes hold, as a certificate does; none where there are fewer bytes
+unfoldable pub held : List ℕ → Rights
+held xs = pick (ltb (length xs) 20) noRights (certificate xs 0)
 
 -- "The effective rights are the bitwise and of the three", cleared; without 60 bytes those "that 60 zero bytes open"
 unfoldable pub effective : List ℕ → Rights

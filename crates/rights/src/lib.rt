@@ -7,7 +7,7 @@ ghost use lib.ListN.{length, getD};
 ghost use Rattle.base.specs.Choice.{pick};
 ghost use Rattle.base.specs.Bytes.{part};
 ghost use Rattle.rights.specs.Rights.{bit, flagged, recordBit, mayRecords, mayBiometrics};
-ghost use Rattle.rights.specs.Chain.{certificate, joinedBytes, joined, clearedBytes, cleared, effective, sameBytes, same, isCleared};
+ghost use Rattle.rights.specs.Chain.{certificate, joinedBytes, joined, clearedBytes, cleared, noRights, held, effective, sameBytes, same, isCleared};
 
 const TRAVEL: usize = 1;
 
@@ -46,7 +46,7 @@ fn seventeen(s: &[u8], at: usize) -> [u8; 17]
 
 // Certificate k of the three, counted from 0.
 fn certificate(chain: &[u8], k: usize) -> Rights
-    requires { ⌜ (length (now chain) ≡ 60) × (k < 3) ⌝ }
+    requires { ⌜ (20 * k + 20 ≤ length (now chain)) × (k < 3) ⌝ }
     ensures { λ r. ⌜ r ≡ certificate (now (chain .entry)) k ⌝ }
 {
     let at = 20 * k;
@@ -120,17 +120,33 @@ fn clear(r: Rights) -> Rights
     }
 }
 
+fn none() -> Rights
+    ensures { λ r. ⌜ r ≡ noRights ⌝ }
+{
+    Rights {
+        flags: 0,
+        travel: 0,
+        visa: 0,
+        biometrics: [0; 17],
+    }
+}
+
+// The rights that 20 bytes hold, as a certificate does; none where there are fewer bytes.
+pub fn held(bytes: &[u8]) -> Rights
+    ensures { λ r. ⌜ r ≡ held (now (bytes .entry)) ⌝ }
+{
+    if bytes.len() < 20 {
+        return none();
+    }
+    certificate(bytes, 0)
+}
+
 // The effective rights of a chain of three certificates of 20 bytes; those of 60 zero bytes where there are not 60 bytes.
 pub fn effective(certificates: &[u8]) -> Rights
     ensures { λ r. ⌜ r ≡ effective (now (certificates .entry)) ⌝ }
 {
     if certificates.len() != 60 {
-        return Rights {
-            flags: 0,
-            travel: 0,
-            visa: 0,
-            biometrics: [0; 17],
-        };
+        return none();
     }
     let first = certificate(certificates, 0);
     let second = certificate(certificates, 1);

@@ -1,13 +1,16 @@
 -- `rights::effective` meets its contract.
 use borrow.Author.Tests.{eq-eqb, ne-eqb}
-use Rattle.rights.specs.Chain.{noRights, effective}
+use Rattle.rights.specs.Chain.{effective}
 use borrow.Author.Needs.{needs}
 use Rattle.rights.proofs.effective.Statement.{statement}
 use Rattle.rights.proofs.effective.Tie as tie
 
+none-requires : tie.Need-none-requires
+none-requires c κs = search needs
+
 returns : tie.Need-returns
-unfolding effective noRights
-returns c = simp (ne-eqb _ _ (c .if1 .taken))
+unfolding effective
+returns c = simp (ne-eqb _ _ (c .before .if1 .taken), c .none .ensures)
 
 certificate-requires : tie.Need-certificate-requires
 certificate-requires c κs = search needs
@@ -44,6 +47,7 @@ pub effective-spec : {M : Type 1} → statement M
 effective-spec =
     tie.close
     (tie.spec
+    none-requires
     returns
     certificate-requires
     certificate-requires-2

@@ -1,0 +1,28 @@
+-- `malquindo::result` meets its contract.
+use Rattle.malquindo.specs.Face.{resultOf}
+use borrow.Author.Needs.{needs}
+use Rattle.malquindo.proofs.result.Statement.{statement}
+use Rattle.malquindo.proofs.result.Tie as tie
+
+number-of-requires : tie.Need-number-of-requires
+number-of-requires c κs = search needs
+
+mul-result : tie.Need-mul-result
+mul-result c = search needs
+
+mul-result-2 : tie.Need-mul-result-2
+mul-result-2 c = search needs
+
+add-result : tie.Need-add-result
+add-result c = search needs
+
+add-result-2 : tie.Need-add-result-2
+add-result-2 c = search needs
+
+returns : tie.Need-returns
+unfolding resultOf
+returns c = simp (c .number-of .ensures .0)
+
+pub result-spec : {M : Type 1} → statement M
+result-spec =
+    tie.close (tie.spec number-of-requires mul-result mul-result-2 add-result add-result-2 returns)
