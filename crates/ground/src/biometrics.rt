@@ -1,12 +1,11 @@
 // Cases of bodies::biometrics.
-use crate::say;
 
 // State, written length, room and content, and whether the body is well formed.
 fn read(body: &[u8]) {
     say::word(b"biometrics.read");
-    say::number(bodies::biometrics::state(body));
-    say::number(bodies::biometrics::written(body));
-    say::number(bodies::biometrics::room(body));
+    say::field(bodies::biometrics::state(body));
+    say::field(bodies::biometrics::written(body));
+    say::field(bodies::biometrics::room(body));
     say::bytes(bodies::biometrics::content(body));
     say::flag(bodies::biometrics::well_formed(body));
 }

@@ -1,5 +1,4 @@
 // Cases of store::image.
-use crate::say;
 use store::image::Found;
 
 // Where the body of a kind is, and the body.
@@ -7,8 +6,8 @@ fn find(image: &[u8], kind: usize) {
     say::word(b"image.find");
     match store::image::find(image, kind) {
         Found::At(start, len) => {
-            say::number(start);
-            say::number(len);
+            say::field(start);
+            say::field(len);
         }
         Found::Missing => say::word(b" none"),
     }

@@ -6,7 +6,6 @@ mod images;
 mod reading;
 mod records;
 mod rules;
-mod say;
 mod windows;
 mod writing;
 

@@ -1,5 +1,4 @@
 // Cases of objects::head, objects::number, templates and the depth of objects::reader.
-use crate::say;
 use objects::head::Head;
 use templates::Place;
 use templates::Query;
@@ -26,8 +25,8 @@ const FIVE: [[u16; 5]; 5] = [
 fn head(h: Head) {
     match h {
         Head::Body(start, len) => {
-            say::number(start);
-            say::number(len);
+            say::field(start);
+            say::field(len);
         }
         Head::NoTag => say::word(b" no tag"),
         Head::NoLength => say::word(b" no length"),
@@ -46,12 +45,12 @@ fn header(s: &[u8], tag: usize) {
 
 fn number(s: &[u8]) {
     say::word(b"number");
-    say::number(objects::number::number(s));
+    say::field(objects::number::number(s));
 }
 
 fn place(p: Place) {
-    say::number(p.at);
-    say::number(p.len);
+    say::field(p.at);
+    say::field(p.len);
 }
 
 fn asked(q: Search) {
@@ -59,8 +58,8 @@ fn asked(q: Search) {
     let text = q.text;
     place(file);
     say::flag(q.one);
-    say::number(q.offset);
-    say::number(q.number);
+    say::field(q.offset);
+    say::field(q.number);
     place(text);
 }
 
@@ -77,7 +76,7 @@ fn update(s: &[u8]) {
     match templates::read_update(s) {
         Update::Write(w) => {
             let bytes = w.bytes;
-            say::number(w.offset);
+            say::field(w.offset);
             place(bytes);
         }
         Update::Refused => say::word(b" refused"),

@@ -1,11 +1,10 @@
 // Cases of bodies::body.
-use crate::say;
 
 // The count and the bytes used.
 fn used(body: &[u8]) {
     say::word(b"body.used");
-    say::number(bodies::body::count(body));
-    say::number(bodies::body::used(body));
+    say::field(bodies::body::count(body));
+    say::field(bodies::body::used(body));
 }
 
 fn fits(body: &[u8], n: usize) {

@@ -1,5 +1,4 @@
 // Cases of bodies::rules.
-use crate::say;
 use bodies::rules::Key;
 use bodies::rules::Ruled;
 use bodies::rules::look;
@@ -8,12 +7,12 @@ use bodies::rules::row;
 fn rule(found: Ruled) {
     match found {
         Ruled::Is(r) => {
-            say::number(r.kind);
-            say::number(r.application);
-            say::number(r.id);
-            say::number(r.short);
-            say::number(r.longest);
-            say::number(r.most);
+            say::field(r.kind);
+            say::field(r.application);
+            say::field(r.id);
+            say::field(r.short);
+            say::field(r.longest);
+            say::field(r.most);
         }
         Ruled::Nothing => say::word(b" none"),
     }

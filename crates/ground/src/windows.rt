@@ -1,5 +1,4 @@
 // Cases of window.
-use crate::say;
 
 fn window(record: &[u8], offset: usize, number: usize) {
     say::word(b"window");

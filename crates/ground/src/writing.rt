@@ -1,21 +1,20 @@
 // Cases of writer. The number that is written is one of b's bytes, the highest first.
-use crate::say;
 use objects::number::number;
 
 fn fewest(n: usize) {
     say::word(b"fewest");
-    say::number(writer::fewest(n));
+    say::field(writer::fewest(n));
 }
 
 fn put_head(out: &mut [u8], at: usize, tag: usize, b: &[u8]) {
     say::word(b"put_head");
-    say::number(writer::put_head(out, at, tag, number(b)));
+    say::field(writer::put_head(out, at, tag, number(b)));
     say::bytes(out);
 }
 
 fn put_number(out: &mut [u8], at: usize, tag: usize, b: &[u8]) {
     say::word(b"put_number");
-    say::number(writer::put_number(out, at, (tag % 256) as u8, number(b)));
+    say::field(writer::put_number(out, at, (tag % 256) as u8, number(b)));
     say::bytes(out);
 }
 

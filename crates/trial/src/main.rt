@@ -5,8 +5,6 @@
 // 2, a command: its length (2 bytes, little-endian), its bytes. It is run on the card, with the session that the call before
 //    answered and a response buffer of 2,050 bytes. The line: the refusal's number, the response (`-` where there is none).
 // 3, a look: the line is the card's image.
-mod say;
-
 use bodies::little::read32;
 use session::Refusal;
 use session::Session;
@@ -35,7 +33,7 @@ fn refusal(r: Refusal) -> usize {
 fn open(certificates: &[u8]) -> Session {
     let a = machine::open(certificates);
     let why = a.refusal;
-    say::number(refusal(why));
+    say::number(refusal(why) as u64);
     say::end();
     a.session
 }
@@ -67,7 +65,7 @@ fn run(card: &mut [u8], len: usize, session: Session, command: &[u8]) -> Session
     }
     let a = machine::command(&mut card[..len], session, command, &mut response);
     let why = a.refusal;
-    say::number(refusal(why));
+    say::number(refusal(why) as u64);
     say::bytes(base::part(&response, 0, a.length));
     say::end();
     a.session

@@ -1,9 +1,9 @@
--- `trial::say::bytes` meets its contract, which says nothing.
+-- `say::bytes` meets its contract, which says nothing.
 use Prim.Native.Nat.{_-_, _≤_}
 use borrow.Author.Needs.{needs}
 use lib.ListN.{length}
-use Rattle.trial.proofs.say.bytes.Statement.{statement}
-use Rattle.trial.proofs.say.bytes.Tie as tie
+use Rattle.say.proofs.bytes.Statement.{statement}
+use Rattle.say.proofs.bytes.Tie as tie
 
 abbrev Inv-loop : tie.InvT-loop
 Inv-loop s at₀ at = (at ≤ length s)

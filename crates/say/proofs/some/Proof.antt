@@ -1,11 +1,11 @@
--- `trial::say::some` meets its contract, which says nothing: an index is within the text, two places for each byte.
+-- `say::some` meets its contract, which says nothing: an index is within the text, two places for each byte.
 use mathlib.Core.Path.{_≡_}
 use Prim.Native.Nat.{_-_, _≤_}
 use native.Mathlib.Omega.{arith}
 use borrow.Author.Needs.{needs}
 use lib.ListN.{length, length-set, length-take}
-use Rattle.trial.proofs.say.some.Statement.{statement}
-use Rattle.trial.proofs.say.some.Tie as tie
+use Rattle.say.proofs.some.Statement.{statement}
+use Rattle.say.proofs.some.Tie as tie
 
 abbrev Inv-loop : tie.InvT-loop
 Inv-loop s text₀ i₀ text i = (length text ≡ 4096) × (i ≤ 2048)

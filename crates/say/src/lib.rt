@@ -1,18 +1,44 @@
-// What the answers are written with: words, numbers in decimal, bytes in hexadecimal, one line to a call.
+// What programs write their answers with, to standard output: words, numbers in decimal, bytes in hexadecimal. A contract here says
+// nothing of what is written, for the logic does not speak of it; the gate compares it.
 
 // Writes a word.
-pub(crate) fn word(s: &[u8]) {
+pub fn word(s: &[u8])
+    ensures { λ _. ⊤ₛ }
+{
     io::write_all(1, s);
 }
 
 // Ends the line.
-pub(crate) fn end() {
+pub fn end()
+    ensures { λ _. ⊤ₛ }
+{
     word(b"\n");
 }
 
 // Writes a number.
-pub(crate) fn number(n: usize) {
-    io::print_decimal(1, n as u64);
+pub fn number(n: u64)
+    ensures { λ _. ⊤ₛ }
+{
+    io::print_decimal(1, n);
+}
+
+// Writes a space and a number.
+pub fn field(n: usize)
+    ensures { λ _. ⊤ₛ }
+{
+    word(b" ");
+    number(n as u64);
+}
+
+// Writes a space and 1 for yes, 0 for no.
+pub fn flag(yes: bool)
+    ensures { λ _. ⊤ₛ }
+{
+    if yes {
+        word(b" 1");
+    } else {
+        word(b" 0");
+    }
 }
 
 fn digit(n: u8) -> u8 {
@@ -40,7 +66,9 @@ fn some(s: &[u8]) {
 }
 
 // Writes a space and the bytes of s, `-` where there are none.
-pub(crate) fn bytes(s: &[u8]) {
+pub fn bytes(s: &[u8])
+    ensures { λ _. ⊤ₛ }
+{
     word(b" ");
     if s.len() == 0 {
         word(b"-");

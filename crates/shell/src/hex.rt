@@ -1,0 +1,104 @@
+// Hexadecimal: read from a line, with spaces anywhere between digits; written as card tools write it.
+
+// How many bytes were read, and the first digit of the next, 16 where there is none; good is false where something is no digit, or there
+// is no room.
+pub(crate) struct Read {
+    pub(crate) n: usize,
+    pub(crate) half: usize,
+    pub(crate) good: bool,
+}
+
+// 16 for a space, a tab or a carriage return, 17 for anything else.
+fn blank(c: usize) -> usize {
+    if c == 32 || c == 9 || c == 13 {
+        return 16;
+    }
+    17
+}
+
+// The value of a digit; else what `blank` says.
+fn digit(c: usize) -> usize {
+    if c < 48 {
+        return blank(c);
+    }
+    if c <= 57 {
+        return c - 48;
+    }
+    if c < 65 {
+        return 17;
+    }
+    if c <= 70 {
+        return c - 55;
+    }
+    if c < 97 {
+        return 17;
+    }
+    if c <= 102 {
+        return c - 87;
+    }
+    17
+}
+
+fn state(n: usize, half: usize, good: bool) -> Read {
+    Read { n, half, good }
+}
+
+// One byte more, of two digits.
+fn byte(out: &mut [u8], n: usize, high: usize, low: usize) -> Read {
+    let b = [(high % 16 * 16 + low % 16) as u8];
+    if out.len() <= n {
+        return state(n, 16, false);
+    }
+    base::put(out, n, &b);
+    state(n + 1, 16, true)
+}
+
+// One character more.
+fn next(out: &mut [u8], n: usize, half: usize, d: usize) -> Read {
+    if d == 17 {
+        return state(n, half, false);
+    }
+    if d == 16 {
+        return state(n, half, true);
+    }
+    if half == 16 {
+        return state(n, d, true);
+    }
+    byte(out, n, half, d)
+}
+
+// The bytes that a text in hexadecimal is.
+pub(crate) fn decode(text: &[u8], out: &mut [u8]) -> Read {
+    let mut n = 0;
+    let mut half = 16;
+    let mut i = 0;
+    while i < text.len() {
+        let r = next(out, n, half, digit(base::byte(text, i)));
+        if !r.good {
+            return r;
+        }
+        n = r.n;
+        half = r.half;
+        i += 1;
+    }
+    state(n, 16, half == 16)
+}
+
+fn letter(d: usize) -> u8 {
+    let x = (d % 16) as u8;
+    if x < 10 {
+        return x + 48;
+    }
+    x + 55
+}
+
+// Writes the bytes of s, a space before each.
+pub(crate) fn spell(s: &[u8]) {
+    let mut i = 0;
+    while i < s.len() {
+        let b = base::byte(s, i);
+        let text = [32, letter(b / 16), letter(b)];
+        say::word(&text);
+        i += 1;
+    }
+}

@@ -1,0 +1,33 @@
+// Status words and refusals in words.
+
+// What a status word means.
+pub(crate) fn status(w: u64) {
+    match w {
+        0x9000 => say::word(b"Normal processing"),
+        0x6282 => say::word(b"No record matches"),
+        0x6700 => say::word(b"Wrong length"),
+        0x6981 => say::word(b"Command incompatible with file structure"),
+        0x6982 => say::word(b"Security status not satisfied"),
+        0x6986 => say::word(b"Command not allowed, no current file"),
+        0x6A80 => say::word(b"Incorrect parameters in the data field"),
+        0x6A82 => say::word(b"File or application not found"),
+        0x6A83 => say::word(b"Record not found"),
+        0x6A84 => say::word(b"Not enough memory space in the file"),
+        0x6A86 => say::word(b"Incorrect parameters P1-P2"),
+        0x6B00 => say::word(b"Wrong parameters, offset outside the file"),
+        0x6D00 => say::word(b"Instruction not supported"),
+        0x6E00 => say::word(b"Class not supported"),
+        _ => say::word(b"Unknown status"),
+    }
+}
+
+// Why a call was refused.
+pub(crate) fn refusal(number: u64) {
+    match number {
+        1 => say::word(b"! refused (1): the response buffer is too short"),
+        2 => say::word(b"! refused (2): the card image is not well formed"),
+        3 => say::word(b"! refused (3): rights are 60 bytes, three certificates of 20"),
+        4 => say::word(b"! refused (4): the session does not fit the card"),
+        _ => say::word(b"! refused"),
+    }
+}

@@ -1,0 +1,484 @@
+//! The eight commands. Each function below tests in the order of "Order of status words",
+//! steps 4 to 10; a status other than 9000 is an `Err`, given before anything is changed.
+
+use crate::apdu::{Apdu, Le};
+use crate::image::{Application, BiometricsFile, File, Layout, RecordFile, TransparentFile};
+use crate::objects::{self, FileName, Search, Update};
+use crate::rights::Use;
+use crate::search;
+use crate::session::{Place, Session};
+
+/// "the status is 256·SW1 + SW2"
+pub type Status = u16;
+
+pub const OK: Status = 0x9000;
+const NOT_FOUND: Status = 0x6282;
+const WRONG_LENGTH: Status = 0x6700;
+const WRONG_FILE_TYPE: Status = 0x6981;
+const RIGHT_MISSING: Status = 0x6982;
+const NO_CURRENT_FILE: Status = 0x6986;
+const WRONG_DATA: Status = 0x6A80;
+const NO_SUCH_FILE: Status = 0x6A82;
+const NO_SUCH_RECORD: Status = 0x6A83;
+const NO_ROOM: Status = 0x6A84;
+const WRONG_P1_P2: Status = 0x6A86;
+const WRONG_OFFSET: Status = 0x6B00;
+const WRONG_INS: Status = 0x6D00;
+const WRONG_CLA: Status = 0x6E00;
+
+/// "Returns min(Ne, 2,048, size − offset) bytes."; "cut at 2,048 bytes"
+const LONGEST_REPLY: usize = 2_048;
+/// The largest "most records" of any file.
+const MOST_RECORDS: usize = 254;
+
+/// A command answered 9000: how many data bytes stand in the response, and the session after.
+pub struct Done {
+    pub data: usize,
+    pub session: Session,
+}
+
+type Outcome = Result<Done, Status>;
+
+/// Steps 1 to 3: "6700: under 4 bytes, or none of ISO's seven short and extended shapes; data
+/// over 1,024 bytes." "6E00: CLA not 00 or 80." "6D00: not a pair below."
+pub fn run(
+    image: &mut [u8],
+    layout: &Layout,
+    session: &Session,
+    bytes: &[u8],
+    response: &mut [u8],
+) -> Outcome {
+    let apdu = Apdu::parse(bytes).ok_or(WRONG_LENGTH)?;
+    let card = Card { layout, session };
+    let mut reply = Reply::new(response);
+    let session = match (apdu.cla, apdu.ins) {
+        (0x00, 0xA4) => card.select(&apdu),
+        (0x00, 0xB0) => card.read_binary(&apdu, image, &mut reply),
+        (0x00, 0xD7) => card.update_binary(&apdu, image),
+        (0x00, 0x44) => card.activate(&apdu, image),
+        (0x00, 0xE2) => card.append_record(&apdu, image),
+        (0x00, 0xB2) => card.read_record(&apdu, image, &mut reply),
+        (0x00, 0xA2) => card.search_record(&apdu, image, &mut reply),
+        (0x80, 0x5E) => card.fmm(&apdu, &mut reply),
+        (0x00 | 0x80, _) => Err(WRONG_INS),
+        _ => Err(WRONG_CLA),
+    }?;
+    Ok(Done {
+        data: reply.length,
+        session,
+    })
+}
+
+/// The card and the session that a command meets. Each command gives the session after it.
+struct Card<'a> {
+    layout: &'a Layout,
+    session: &'a Session,
+}
+
+impl Card<'_> {
+    /// "**SELECT** 00 A4, Lc, no Le."
+    fn select(&self, apdu: &Apdu) -> Result<Session, Status> {
+        match apdu.p1_p2() {
+            0x040C => self.select_application(data_without_le(apdu)?),
+            0x020C => self.select_file(two_bytes(data_without_le(apdu)?)?),
+            0x000C => self.select_master_file(two_bytes(data_without_le(apdu)?)?),
+            _ => Err(WRONG_P1_P2),
+        }
+    }
+
+    /// "040C: the AID (all 7 bytes; eMRTD's is 6A82; an application whose flag is off is
+    /// 6982)."; "another value 6A82"; "Selecting an application or 3F00 clears the current
+    /// place"
+    fn select_application(&self, aid: &[u8]) -> Result<Session, Status> {
+        let application = Application::of_aid(aid)
+            .filter(|application| self.layout.has(*application))
+            .ok_or(NO_SUCH_FILE)?;
+        require(self.session.rights.flag(application), RIGHT_MISSING)?;
+        Ok(self.session.selecting(application))
+    }
+
+    /// "020C: 2-byte file id in the selected application."; "selecting a file always drops the
+    /// record"
+    fn select_file(&self, id: u16) -> Result<Session, Status> {
+        let file = self.file_by_id(id)?;
+        self.require_right(&file, Use::Read)?;
+        Ok(self.session.dropping_record(id))
+    }
+
+    /// "000C: 3F00."; "another value 6A82"
+    fn select_master_file(&self, id: u16) -> Result<Session, Status> {
+        require(id == 0x3F00, NO_SUCH_FILE)?;
+        Ok(self.session.selecting(Application::MasterFile))
+    }
+
+    /// "**READ BINARY** 00 B0, no Lc, Le. P1 b8 = 0: 15-bit offset, current file. b8 = 1: b7 b6
+    /// zero (else 6A86), short id in b5 to b1, offset P2. Size is w or the constant's length.
+    /// Offset ≥ size: 6B00. Returns min(Ne, 2,048, size − offset) bytes. Sets the file."
+    fn read_binary(&self, apdu: &Apdu, image: &[u8], reply: &mut Reply) -> Result<Session, Status> {
+        let by_short_id = apdu.p1 & 0x80 != 0;
+        require(!by_short_id || apdu.p1 & 0x60 == 0, WRONG_P1_P2)?;
+        let (None, Some(le)) = (apdu.data, apdu.le) else {
+            return Err(WRONG_LENGTH);
+        };
+        let (file, offset) = if by_short_id {
+            (self.file_by_short_id(apdu.p1 & 0x1F)?, usize::from(apdu.p2))
+        } else {
+            (self.current_file()?, usize::from(apdu.p1_p2()))
+        };
+        let transparent = transparent_file(&file)?;
+        self.require_right(&file, Use::Read)?;
+
+        let content = transparent.content(image);
+        require(offset < content.len(), WRONG_OFFSET)?;
+        let rest = &content[offset..];
+        reply.put(&rest[..rest.len().min(le.ne()).min(LONGEST_REPLY)]);
+        Ok(self.session.setting_file(file.id()))
+    }
+
+    /// "**UPDATE BINARY** 00 D7, Lc, no Le. P1-P2 0000 current file, else file id. ... Offset >
+    /// w: 6A80; then offset + length > room: 6A84. Writes; w becomes max(w, offset + length).
+    /// Sets the file."
+    fn update_binary(&self, apdu: &Apdu, image: &mut [u8]) -> Result<Session, Status> {
+        let update = Update::read(data_without_le(apdu)?).ok_or(WRONG_DATA)?;
+        let file = match apdu.p1_p2() {
+            0x0000 => self.current_file()?,
+            id => self.file_by_id(id)?,
+        };
+        let biometrics = self.writable_file(&file)?;
+
+        require(update.offset <= biometrics.written, WRONG_DATA)?;
+        require(
+            update.offset + update.bytes.len() <= biometrics.room,
+            NO_ROOM,
+        )?;
+        biometrics.write(image, update.offset, update.bytes);
+        Ok(self.session.setting_file(file.id()))
+    }
+
+    /// "**ACTIVATE** 00 44 00 00, neither Lc nor Le. State becomes 1."
+    fn activate(&self, apdu: &Apdu, image: &mut [u8]) -> Result<Session, Status> {
+        require(apdu.p1_p2() == 0x0000, WRONG_P1_P2)?;
+        require(apdu.data.is_none() && apdu.le.is_none(), WRONG_LENGTH)?;
+        let file = self.current_file()?;
+        self.writable_file(&file)?.activate(image);
+        Ok(*self.session)
+    }
+
+    /// "**APPEND RECORD** 00 E2, Lc, no Le. P1 00; P2 short id in b8 to b4 (0 is current file),
+    /// low bits 000. Longer than longest: 6700; then count already the most records, or no fit:
+    /// 6A84. The new record becomes current."
+    fn append_record(&self, apdu: &Apdu, image: &mut [u8]) -> Result<Session, Status> {
+        require(apdu.p1 == 0 && apdu.p2 & 0x07 == 0, WRONG_P1_P2)?;
+        let record = data_without_le(apdu)?;
+        let file = self.file_of_p2(apdu.p2)?;
+        let records = record_file(&file)?;
+        self.require_right(&file, Use::Append)?;
+
+        require(record.len() <= records.rule.longest, WRONG_LENGTH)?;
+        require(
+            records.count < records.rule.most && records.fits(record.len()),
+            NO_ROOM,
+        )?;
+        let number = records.append(image, record);
+        Ok(self.session.setting_record(file.id(), number as u8))
+    }
+
+    /// "**READ RECORD** 00 B2, no Lc, Le exactly 00 00 00. P2 short id, low bits 100 (one) or
+    /// 101 (P1 to last). ... Returns the records joined, cut at 2,048 bytes. Sets the file."
+    fn read_record(&self, apdu: &Apdu, image: &[u8], reply: &mut Reply) -> Result<Session, Status> {
+        let only_one = match apdu.p2 & 0x07 {
+            0b100 => true,
+            0b101 => false,
+            _ => return Err(WRONG_P1_P2),
+        };
+        require(
+            apdu.data.is_none() && apdu.le == Some(Le::Extended(0)),
+            WRONG_LENGTH,
+        )?;
+        let file = self.file_of_p2(apdu.p2)?;
+        let records = record_file(&file)?;
+        self.require_right(&file, Use::Read)?;
+
+        let first = self.record_of_p1(apdu.p1, records)?;
+        let count = if only_one { 1 } else { usize::MAX };
+        for record in records.records(image).skip(first - 1).take(count) {
+            let left = LONGEST_REPLY - reply.length;
+            if left == 0 {
+                break;
+            }
+            reply.put(&record[..record.len().min(left)]);
+        }
+        Ok(self.session.setting_file(file.id()))
+    }
+
+    /// "P1 00 is the current record; a short id other than the current file's has none. None,
+    /// FF, or above the count: 6A83." Gives a number from 1 to the count.
+    fn record_of_p1(&self, p1: u8, file: &RecordFile) -> Result<usize, Status> {
+        let number = match (p1, self.session.place) {
+            (0x00, Place::Record(id, record)) if id == file.rule.id => record,
+            (0x00 | 0xFF, _) => return Err(NO_SUCH_RECORD),
+            (number, _) => number,
+        };
+        let number = usize::from(number);
+        require((1..=file.count).contains(&number), NO_SUCH_RECORD)?;
+        Ok(number)
+    }
+
+    /// "**SEARCH RECORD** 00 A2 00 F8, Lc, Le 00 or 0000. ... None: 6282, no data. ... A reply
+    /// over Ne: 6700. Sets the file and, as current, the first match."
+    fn search_record(
+        &self,
+        apdu: &Apdu,
+        image: &[u8],
+        reply: &mut Reply,
+    ) -> Result<Session, Status> {
+        require(apdu.p1_p2() == 0x00F8, WRONG_P1_P2)?;
+        let (Some(data), Some(le)) = (apdu.data, apdu.le.filter(|le| le.is_zero())) else {
+            return Err(WRONG_LENGTH);
+        };
+        let search = Search::read(data).ok_or(WRONG_DATA)?;
+        let file = self.file_by_name(search.file)?;
+        let records = record_file(&file)?;
+        self.require_right(&file, Use::Read)?;
+
+        let matches = Matches::find(&search, records, image);
+        let first = *matches.numbers().first().ok_or(NOT_FOUND)?;
+        let inside = 2 + search.sent_file.len() + 3 * matches.numbers().len();
+        let length = 2 + length_field_size(inside) + inside;
+        require(length <= le.ne(), WRONG_LENGTH)?;
+        reply.put(&[0x7F, 0x76]);
+        reply.put_length(inside);
+        reply.put_object(0x51, search.sent_file);
+        for number in matches.numbers() {
+            reply.put_object(0x02, &[*number]);
+        }
+        Ok(self.session.setting_record(file.id(), first))
+    }
+
+    /// "**FMM** 80 5E (001 Annex D; its Table 38 has 5F), Le 00 or all-zero extended. P1 00:
+    /// current file, no Lc; 01: `51` ... P2 above 07: 6A86; at step 10, b2 or b3 on a
+    /// transparent file: 6A86. P2 00: no data. Else `7F78`{`81` total, `82` remaining, `83`
+    /// existing} as asked ... Sets the file."
+    fn fmm(&self, apdu: &Apdu, reply: &mut Reply) -> Result<Session, Status> {
+        require(apdu.p1 <= 0x01 && apdu.p2 <= 0x07, WRONG_P1_P2)?;
+        let by_name = apdu.p1 == 0x01;
+        require(apdu.data.is_some() == by_name, WRONG_LENGTH)?;
+        require(apdu.le.is_some_and(Le::is_zero), WRONG_LENGTH)?;
+        let file = match apdu.data {
+            Some(data) => self.file_by_name(objects::read_fmm_file(data).ok_or(WRONG_DATA)?)?,
+            None => self.current_file()?,
+        };
+        self.require_right(&file, Use::Read)?;
+
+        put_fmm_reply(&file, apdu.p2, reply)?;
+        Ok(self.session.setting_file(file.id()))
+    }
+
+    /// "6986 no current file"
+    fn current_file(&self) -> Result<File, Status> {
+        let id = self.session.place.file().ok_or(NO_CURRENT_FILE)?;
+        self.file_by_id(id)
+    }
+
+    /// "6A82 no such file or application"
+    fn file_by_id(&self, id: u16) -> Result<File, Status> {
+        self.layout
+            .file_by_id(self.session.application, id)
+            .ok_or(NO_SUCH_FILE)
+    }
+
+    /// "Short id 0 is the current file in P2 of APPEND and READ RECORD; elsewhere 6A82."
+    fn file_by_short_id(&self, short_id: u8) -> Result<File, Status> {
+        self.layout
+            .file_by_short_id(self.session.application, short_id)
+            .ok_or(NO_SUCH_FILE)
+    }
+
+    /// The file that a `51` object names.
+    fn file_by_name(&self, name: FileName) -> Result<File, Status> {
+        match name {
+            FileName::ShortId(short_id) => self.file_by_short_id(short_id),
+            FileName::Id(id) => self.file_by_id(id),
+        }
+    }
+
+    /// "P2 short id in b8 to b4 (0 is current file)"
+    fn file_of_p2(&self, p2: u8) -> Result<File, Status> {
+        match p2 >> 3 {
+            0 => self.current_file(),
+            short_id => self.file_by_short_id(short_id),
+        }
+    }
+
+    /// "6982: right missing, or never."
+    fn require_right(&self, file: &File, wanted: Use) -> Result<(), Status> {
+        require(self.session.rights.allow(file, wanted), RIGHT_MISSING)
+    }
+
+    /// Steps 8 and 9 of UPDATE BINARY and ACTIVATE: "Write and activate on an Activated file,
+    /// or on a master file's file: never."
+    fn writable_file<'a>(&self, file: &'a File) -> Result<&'a BiometricsFile, Status> {
+        let transparent = transparent_file(file)?;
+        self.require_right(file, Use::Write)?;
+        match transparent {
+            TransparentFile::Biometrics(biometrics) => Ok(biometrics),
+            TransparentFile::Constant(_) => Err(RIGHT_MISSING),
+        }
+    }
+}
+
+/// A status unless the condition holds.
+fn require(condition: bool, status: Status) -> Result<(), Status> {
+    if condition {
+        Ok(())
+    } else {
+        Err(status)
+    }
+}
+
+/// "Lc, no Le": the data field, else "6700: Lc or Le present, absent or valued otherwise".
+fn data_without_le<'a>(apdu: &Apdu<'a>) -> Result<&'a [u8], Status> {
+    match (apdu.data, apdu.le) {
+        (Some(data), None) => Ok(data),
+        _ => Err(WRONG_LENGTH),
+    }
+}
+
+/// "Another length for 02 or 00 is 6700"
+fn two_bytes(data: &[u8]) -> Result<u16, Status> {
+    data.try_into()
+        .map(u16::from_be_bytes)
+        .map_err(|_| WRONG_LENGTH)
+}
+
+/// "6981: APPEND, READ or SEARCH RECORD on a transparent file"
+fn record_file(file: &File) -> Result<&RecordFile, Status> {
+    match file {
+        File::Records(records) => Ok(records),
+        File::Transparent(_) => Err(WRONG_FILE_TYPE),
+    }
+}
+
+/// "6981: ... READ BINARY, UPDATE BINARY or ACTIVATE on a record file."
+fn transparent_file(file: &File) -> Result<&TransparentFile, Status> {
+    match file {
+        File::Records(_) => Err(WRONG_FILE_TYPE),
+        File::Transparent(transparent) => Ok(transparent),
+    }
+}
+
+/// The numbers of the records to list, in their order.
+struct Matches {
+    numbers: [u8; MOST_RECORDS],
+    count: usize,
+}
+
+impl Matches {
+    /// "A record matches when the string occurs anywhere inside its window."; "30 lists only
+    /// the first."
+    fn find(search: &Search, file: &RecordFile, image: &[u8]) -> Self {
+        let mut matches = Self {
+            numbers: [0; MOST_RECORDS],
+            count: 0,
+        };
+        for (number, record) in (1..=MOST_RECORDS as u8).zip(file.records(image)) {
+            let window = search::window(record, search.offset, search.number);
+            if search::occurs(search.string, window) {
+                matches.numbers[matches.count] = number;
+                matches.count += 1;
+                if search.only_first {
+                    break;
+                }
+            }
+        }
+        matches
+    }
+
+    /// "`02 01 nn` for each": the numbers found.
+    fn numbers(&self) -> &[u8] {
+        &self.numbers[..self.count]
+    }
+}
+
+/// "at step 10, b2 or b3 on a transparent file: 6A86. P2 00: no data. Else `7F78`{`81` total,
+/// `82` remaining, `83` existing} as asked, each number in the fewest whole bytes, at least
+/// one."
+fn put_fmm_reply(file: &File, p2: u8, reply: &mut Reply) -> Result<(), Status> {
+    let (remaining, existing) = match file {
+        File::Records(records) => (records.remaining(), records.count),
+        File::Transparent(_) => {
+            require(p2 & 0b110 == 0, WRONG_P1_P2)?;
+            (0, 0)
+        }
+    };
+    let numbers = [
+        (0b001, 0x81, file.total()),
+        (0b010, 0x82, remaining),
+        (0b100, 0x83, existing),
+    ];
+    let asked = || numbers.iter().filter(|(bit, _, _)| p2 & bit != 0);
+    if p2 != 0 {
+        let inside = asked()
+            .map(|(_, _, number)| 2 + bytes_needed(*number))
+            .sum();
+        reply.put(&[0x7F, 0x78]);
+        reply.put_length(inside);
+        for (_, tag, number) in asked() {
+            let bytes = number.to_be_bytes();
+            reply.put_object(*tag, &bytes[bytes.len() - bytes_needed(*number)..]);
+        }
+    }
+    Ok(())
+}
+
+/// "each number in the fewest whole bytes, at least one"
+fn bytes_needed(number: usize) -> usize {
+    let bits = usize::BITS - number.leading_zeros();
+    (bits.div_ceil(8) as usize).max(1)
+}
+
+/// "DO lengths: 00 to 7F; 81 for 80 to FF; 82 for 0100 up": how many bytes the field takes.
+fn length_field_size(length: usize) -> usize {
+    match length {
+        0..=0x7F => 1,
+        0x80..=0xFF => 2,
+        _ => 3,
+    }
+}
+
+/// The data written so far from the start of the response. A command writes here only once
+/// nothing can fail any more, so "response bytes behind the answer stay".
+struct Reply<'a> {
+    buffer: &'a mut [u8],
+    length: usize,
+}
+
+impl<'a> Reply<'a> {
+    /// "data then SW1 SW2 are written from the buffer's start": nothing written yet.
+    fn new(buffer: &'a mut [u8]) -> Self {
+        Self { buffer, length: 0 }
+    }
+
+    /// Writes bytes behind those already there; no reply is longer than 2,048 bytes.
+    fn put(&mut self, bytes: &[u8]) {
+        let end = self.length + bytes.len();
+        self.buffer[self.length..end].copy_from_slice(bytes);
+        self.length = end;
+    }
+
+    /// "DO lengths: 00 to 7F; 81 for 80 to FF; 82 for 0100 up"
+    fn put_length(&mut self, length: usize) {
+        let [.., high, low] = length.to_be_bytes();
+        match length_field_size(length) {
+            1 => self.put(&[low]),
+            2 => self.put(&[0x81, low]),
+            _ => self.put(&[0x82, high, low]),
+        }
+    }
+
+    /// A one-byte tag, a length below 80 and a value.
+    fn put_object(&mut self, tag: u8, value: &[u8]) {
+        self.put(&[tag, value.len() as u8]);
+        self.put(value);
+    }
+}

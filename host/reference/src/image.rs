@@ -1,0 +1,510 @@
+//! The card image: its rules, the files it holds, and the three changes a command may make.
+//!
+//! [`Layout::read`] checks the whole image once and notes where each file lies; no byte of
+//! the image is copied. Every file handed out by a layout is good for the image it was read
+//! from, until that image is changed.
+
+/// "At most 262,144 bytes"
+const LONGEST_IMAGE: usize = 262_144;
+/// "A section is a 4-byte little-endian body length L, a 2-byte little-endian kind"
+const SECTION_HEADER: usize = 6;
+/// "0401 to 0440 | Biometrics 1 to 64"
+const BIOMETRICS_FILES: usize = 64;
+const FIRST_BIOMETRICS_KIND: u16 = 0x0401;
+const FIRST_BIOMETRICS_ID: u16 = 0x0201;
+/// "state byte (0 Deactivated, 1 Activated), 4-byte little-endian written length w"
+const BIOMETRICS_HEADER: usize = 5;
+/// "room of L − 5 bytes, at most 32,768"
+const LARGEST_ROOM: usize = 32_768;
+
+const ATR_INFO_ID: u16 = 0x2F01;
+const ATR_INFO_SHORT_ID: u8 = 0x01;
+const DIR_ID: u16 = 0x2F00;
+const DIR_SHORT_ID: u8 = 0x1E;
+
+/// "EF.ATR/INFO (2F01, short 01), `47 03 86 01 60 7F 66 08 02 02 04 00 02 02 08 02`"
+const ATR_INFO: [u8; 16] = [
+    0x47, 0x03, 0x86, 0x01, 0x60, 0x7F, 0x66, 0x08, 0x02, 0x02, 0x04, 0x00, 0x02, 0x02, 0x08, 0x02,
+];
+
+const AID_LEN: usize = 7;
+/// "the AID A0 00 00 02 47 followed by 10 01, 20 01, 20 02, 20 03"
+const EMRTD_AID: [u8; AID_LEN] = [0xA0, 0x00, 0x00, 0x02, 0x47, 0x10, 0x01];
+const TRAVEL_AID: [u8; AID_LEN] = [0xA0, 0x00, 0x00, 0x02, 0x47, 0x20, 0x01];
+const VISA_AID: [u8; AID_LEN] = [0xA0, 0x00, 0x00, 0x02, 0x47, 0x20, 0x02];
+const BIOMETRICS_AID: [u8; AID_LEN] = [0xA0, 0x00, 0x00, 0x02, 0x47, 0x20, 0x03];
+/// "`61 09 4F 07` and the AID"
+const DIR_ENTRY_START: [u8; 4] = [0x61, 0x09, 0x4F, 0x07];
+const DIR_ENTRY_LEN: usize = DIR_ENTRY_START.len() + AID_LEN;
+const LONGEST_CONSTANT: usize = 4 * DIR_ENTRY_LEN;
+
+/// What may be selected: the master file or one of the three applications.
+#[derive(Clone, Copy, Debug, PartialEq, Eq)]
+pub enum Application {
+    MasterFile,
+    Travel,
+    Visa,
+    Biometrics,
+}
+
+impl Application {
+    /// "040C: the AID (all 7 bytes; eMRTD's is 6A82 ...)": the covered application of an AID.
+    pub fn of_aid(aid: &[u8]) -> Option<Self> {
+        if aid == TRAVEL_AID {
+            Some(Self::Travel)
+        } else if aid == VISA_AID {
+            Some(Self::Visa)
+        } else if aid == BIOMETRICS_AID {
+            Some(Self::Biometrics)
+        } else {
+            None
+        }
+    }
+}
+
+/// One line of the table of record files.
+#[derive(Debug)]
+pub struct RecordRule {
+    kind: u16,
+    pub application: Application,
+    pub id: u16,
+    pub short_id: u8,
+    pub longest: usize,
+    pub most: usize,
+    pub certificates: bool,
+}
+
+/// The six lines of the table "kind | file | id | short id | longest record | most records".
+static RECORD_RULES: [RecordRule; 6] = [
+    RecordRule {
+        kind: 0x0101,
+        application: Application::Travel,
+        id: 0x0101,
+        short_id: 0x01,
+        longest: 391,
+        most: 254,
+        certificates: false,
+    },
+    RecordRule {
+        kind: 0x0102,
+        application: Application::Travel,
+        id: 0x0102,
+        short_id: 0x02,
+        longest: 391,
+        most: 254,
+        certificates: false,
+    },
+    RecordRule {
+        kind: 0x011A,
+        application: Application::Travel,
+        id: 0x011A,
+        short_id: 0x1A,
+        longest: 929,
+        most: 254,
+        certificates: true,
+    },
+    RecordRule {
+        kind: 0x0203,
+        application: Application::Visa,
+        id: 0x0103,
+        short_id: 0x03,
+        longest: 512,
+        most: 254,
+        certificates: false,
+    },
+    RecordRule {
+        kind: 0x021A,
+        application: Application::Visa,
+        id: 0x011A,
+        short_id: 0x1A,
+        longest: 929,
+        most: 254,
+        certificates: true,
+    },
+    RecordRule {
+        kind: 0x031A,
+        application: Application::Biometrics,
+        id: 0x011A,
+        short_id: 0x1A,
+        longest: 929,
+        most: 64,
+        certificates: true,
+    },
+];
+
+/// A record file of the image: its rule, where its body lies and what it holds.
+#[derive(Clone, Copy, Debug)]
+pub struct RecordFile {
+    pub rule: &'static RecordRule,
+    start: usize,
+    length: usize,
+    pub count: usize,
+    used: usize,
+}
+
+impl RecordFile {
+    /// "Record body: 2-byte little-endian count (0 to most records), then each record as
+    /// 2-byte little-endian length (1 to longest) and its bytes; the rest is free and
+    /// ignored."
+    fn read(rule: &'static RecordRule, body: &[u8], start: usize) -> Option<Self> {
+        let count = little_u16(body)?;
+        if count > rule.most {
+            return None;
+        }
+        let mut used = 2;
+        for _ in 0..count {
+            let length = little_u16(body.get(used..)?)?;
+            if length == 0 || length > rule.longest {
+                return None;
+            }
+            used += 2 + length;
+        }
+        let file = Self {
+            rule,
+            start,
+            length: body.len(),
+            count,
+            used,
+        };
+        (used <= body.len()).then_some(file)
+    }
+
+    /// The records in their order, each a part of the image.
+    pub fn records<'a>(&self, image: &'a [u8]) -> Records<'a> {
+        Records {
+            rest: image
+                .get(self.start + 2..self.start + self.used)
+                .unwrap_or(&[]),
+        }
+    }
+
+    /// "An append of n bytes fits when used + 2 + n ≤ L."
+    pub fn fits(&self, n: usize) -> bool {
+        self.used + 2 + n <= self.length
+    }
+
+    /// Puts a record that fits behind the last one and counts it. Returns its number.
+    pub fn append(&self, image: &mut [u8], record: &[u8]) -> usize {
+        let number = self.count + 1;
+        put_little_u16(image, self.start, number);
+        let at = self.start + self.used;
+        put_little_u16(image, at, record.len());
+        image[at + 2..at + 2 + record.len()].copy_from_slice(record);
+        number
+    }
+
+    /// "Total: L − 2 − 2·count"
+    fn total(&self) -> usize {
+        self.length - 2 - 2 * self.count
+    }
+
+    /// "Remaining: min(most − count, (L − used) div (2 + longest))."
+    pub fn remaining(&self) -> usize {
+        let by_count = self.rule.most - self.count;
+        let by_room = (self.length - self.used) / (2 + self.rule.longest);
+        by_count.min(by_room)
+    }
+}
+
+/// Walks over the records of a checked body.
+pub struct Records<'a> {
+    rest: &'a [u8],
+}
+
+impl<'a> Iterator for Records<'a> {
+    type Item = &'a [u8];
+
+    /// "then each record as 2-byte little-endian length (1 to longest) and its bytes"
+    fn next(&mut self) -> Option<&'a [u8]> {
+        let length = little_u16(self.rest)?;
+        let (record, rest) = self.rest.get(2..)?.split_at_checked(length)?;
+        self.rest = rest;
+        Some(record)
+    }
+}
+
+/// One of the files Biometrics 1 to 64.
+#[derive(Clone, Copy, Debug)]
+pub struct BiometricsFile {
+    /// 0 for Biometrics 1, up to 63 for Biometrics 64.
+    pub index: usize,
+    start: usize,
+    pub room: usize,
+    pub activated: bool,
+    pub written: usize,
+}
+
+impl BiometricsFile {
+    /// "Biometrics body: state byte (0 Deactivated, 1 Activated), 4-byte little-endian
+    /// written length w, then room of L − 5 bytes, at most 32,768; w ≤ room."
+    fn read(index: usize, body: &[u8], start: usize) -> Option<Self> {
+        let room = body.len().checked_sub(BIOMETRICS_HEADER)?;
+        let activated = match body[0] {
+            0 => false,
+            1 => true,
+            _ => return None,
+        };
+        let written = little_u32(&body[1..])?;
+        let file = Self {
+            index,
+            start,
+            room,
+            activated,
+            written,
+        };
+        (room <= LARGEST_ROOM && written <= room).then_some(file)
+    }
+
+    /// The file id, 0201 to 0240.
+    fn id(&self) -> u16 {
+        FIRST_BIOMETRICS_ID + self.index as u16
+    }
+
+    /// "Size is w": the bytes written so far.
+    fn content<'a>(&self, image: &'a [u8]) -> &'a [u8] {
+        let at = self.start + BIOMETRICS_HEADER;
+        image.get(at..at + self.written).unwrap_or(&[])
+    }
+
+    /// "Writes; w becomes max(w, offset + length)." The bytes must end within the room.
+    pub fn write(&self, image: &mut [u8], offset: usize, bytes: &[u8]) {
+        let end = offset + bytes.len();
+        let room = self.start + BIOMETRICS_HEADER;
+        image[room + offset..room + end].copy_from_slice(bytes);
+        let written = self.written.max(end) as u32;
+        image[self.start + 1..room].copy_from_slice(&written.to_le_bytes());
+    }
+
+    /// "State becomes 1."
+    pub fn activate(&self, image: &mut [u8]) {
+        image[self.start] = 1;
+    }
+}
+
+/// One of the master file's two files, with its bytes.
+#[derive(Clone, Copy, Debug)]
+pub struct ConstantFile {
+    id: u16,
+    bytes: [u8; LONGEST_CONSTANT],
+    length: usize,
+}
+
+impl ConstantFile {
+    /// A constant file with no bytes yet.
+    fn new(id: u16) -> Self {
+        Self {
+            id,
+            bytes: [0; LONGEST_CONSTANT],
+            length: 0,
+        }
+    }
+
+    /// The same file with a part put behind what it has.
+    fn with(mut self, part: &[u8]) -> Self {
+        let end = self.length + part.len();
+        self.bytes[self.length..end].copy_from_slice(part);
+        self.length = end;
+        self
+    }
+
+    /// "Size is w or the constant's length": all of its bytes.
+    fn content(&self) -> &[u8] {
+        &self.bytes[..self.length]
+    }
+}
+
+/// A file that holds bytes rather than records.
+#[derive(Clone, Copy, Debug)]
+pub enum TransparentFile {
+    Constant(ConstantFile),
+    Biometrics(BiometricsFile),
+}
+
+impl TransparentFile {
+    /// "Size is w or the constant's length": the bytes that may be read.
+    pub fn content<'a>(&'a self, image: &'a [u8]) -> &'a [u8] {
+        match self {
+            Self::Constant(file) => file.content(),
+            Self::Biometrics(file) => file.content(image),
+        }
+    }
+}
+
+/// Any file of the card.
+#[derive(Clone, Copy, Debug)]
+pub enum File {
+    Records(RecordFile),
+    Transparent(TransparentFile),
+}
+
+impl File {
+    /// The file id within its application.
+    pub fn id(&self) -> u16 {
+        match self {
+            Self::Records(file) => file.rule.id,
+            Self::Transparent(TransparentFile::Constant(file)) => file.id,
+            Self::Transparent(TransparentFile::Biometrics(file)) => file.id(),
+        }
+    }
+
+    /// "Total: L − 2 − 2·count; room; or the constant's length."
+    pub fn total(&self) -> usize {
+        match self {
+            Self::Records(file) => file.total(),
+            Self::Transparent(TransparentFile::Constant(file)) => file.length,
+            Self::Transparent(TransparentFile::Biometrics(file)) => file.room,
+        }
+    }
+}
+
+/// What lies where in a checked image.
+#[derive(Debug)]
+pub struct Layout {
+    /// In the order of [`RECORD_RULES`].
+    records: [Option<RecordFile>; RECORD_RULES.len()],
+    biometrics: [Option<BiometricsFile>; BIOMETRICS_FILES],
+}
+
+impl Layout {
+    /// "At most 262,144 bytes: sections up to the exact end, perhaps none. A section is a
+    /// 4-byte little-endian body length L, a 2-byte little-endian kind, then L bytes. Kinds
+    /// strictly increase." None where the image is not so.
+    pub fn read(image: &[u8]) -> Option<Self> {
+        if image.len() > LONGEST_IMAGE {
+            return None;
+        }
+        let mut layout = Self {
+            records: [None; RECORD_RULES.len()],
+            biometrics: [None; BIOMETRICS_FILES],
+        };
+        let mut last_kind = 0;
+        let mut at = 0;
+        while at < image.len() {
+            let (header, rest) = image[at..].split_at_checked(SECTION_HEADER)?;
+            let body = rest.get(..little_u32(header)?)?;
+            let kind = u16::from_le_bytes([header[4], header[5]]);
+            if kind <= last_kind {
+                return None;
+            }
+            layout.add(kind, body, at + SECTION_HEADER)?;
+            last_kind = kind;
+            at += SECTION_HEADER + body.len();
+        }
+        layout.complete().then_some(layout)
+    }
+
+    /// Checks one section's body by the rules of its kind and notes the file.
+    fn add(&mut self, kind: u16, body: &[u8], start: usize) -> Option<()> {
+        if let Some(i) = RECORD_RULES.iter().position(|rule| rule.kind == kind) {
+            self.records[i] = Some(RecordFile::read(&RECORD_RULES[i], body, start)?);
+        } else {
+            let index = usize::from(kind.checked_sub(FIRST_BIOMETRICS_KIND)?);
+            let slot = self.biometrics.get_mut(index)?;
+            *slot = Some(BiometricsFile::read(index, body, start)?);
+        }
+        Some(())
+    }
+
+    /// "Travel has all of 0101, 0102, 011A or none; visa both or neither; 04xx needs 031A."
+    fn complete(&self) -> bool {
+        let [entry, exit, travel_certificates, visas, visa_certificates, biometrics_certificates] =
+            self.records.each_ref().map(Option::is_some);
+        entry == exit
+            && exit == travel_certificates
+            && visas == visa_certificates
+            && (biometrics_certificates || self.biometrics.iter().all(Option::is_none))
+    }
+
+    /// "An application is present when its sections are." "The master file always has ..."
+    pub fn has(&self, application: Application) -> bool {
+        application == Application::MasterFile || self.record_files(application).next().is_some()
+    }
+
+    /// The record files of an application that the image holds.
+    fn record_files(&self, application: Application) -> impl Iterator<Item = &RecordFile> {
+        self.records
+            .iter()
+            .flatten()
+            .filter(move |file| file.rule.application == application)
+    }
+
+    /// "In every command file ids and short ids are those of the selected application (2F01
+    /// and 2F00 only while the master file is selected)."
+    pub fn file_by_id(&self, application: Application, id: u16) -> Option<File> {
+        match application {
+            Application::MasterFile => match id {
+                ATR_INFO_ID => Some(self.atr_info()),
+                DIR_ID => Some(self.directory()),
+                _ => None,
+            },
+            Application::Biometrics if id >= FIRST_BIOMETRICS_ID => self
+                .biometrics
+                .get(usize::from(id - FIRST_BIOMETRICS_ID))
+                .copied()
+                .flatten()
+                .map(|file| File::Transparent(TransparentFile::Biometrics(file))),
+            _ => self
+                .record_files(application)
+                .find(|file| file.rule.id == id)
+                .map(|file| File::Records(*file)),
+        }
+    }
+
+    /// The file of a short id within the selected application; short id 0 names none.
+    pub fn file_by_short_id(&self, application: Application, short_id: u8) -> Option<File> {
+        match application {
+            Application::MasterFile => match short_id {
+                ATR_INFO_SHORT_ID => Some(self.atr_info()),
+                DIR_SHORT_ID => Some(self.directory()),
+                _ => None,
+            },
+            _ => self
+                .record_files(application)
+                .find(|file| file.rule.short_id == short_id)
+                .map(|file| File::Records(*file)),
+        }
+    }
+
+    /// "The master file always has EF.ATR/INFO"
+    fn atr_info(&self) -> File {
+        let file = ConstantFile::new(ATR_INFO_ID).with(&ATR_INFO);
+        File::Transparent(TransparentFile::Constant(file))
+    }
+
+    /// "and EF.DIR (2F00, short 1E): for eMRTD, then travel, visa, biometrics if present,
+    /// `61 09 4F 07` and the AID"
+    fn directory(&self) -> File {
+        let mut file = ConstantFile::new(DIR_ID)
+            .with(&DIR_ENTRY_START)
+            .with(&EMRTD_AID);
+        for (application, aid) in [
+            (Application::Travel, TRAVEL_AID),
+            (Application::Visa, VISA_AID),
+            (Application::Biometrics, BIOMETRICS_AID),
+        ] {
+            if self.has(application) {
+                file = file.with(&DIR_ENTRY_START).with(&aid);
+            }
+        }
+        File::Transparent(TransparentFile::Constant(file))
+    }
+}
+
+/// The 2-byte little-endian number at the start of some bytes.
+fn little_u16(bytes: &[u8]) -> Option<usize> {
+    bytes
+        .first_chunk()
+        .map(|first| usize::from(u16::from_le_bytes(*first)))
+}
+
+/// The 4-byte little-endian number at the start of some bytes.
+fn little_u32(bytes: &[u8]) -> Option<usize> {
+    bytes
+        .first_chunk()
+        .and_then(|first| usize::try_from(u32::from_le_bytes(*first)).ok())
+}
+
+/// Puts a number below 2^16 into two bytes, little-endian.
+fn put_little_u16(bytes: &mut [u8], at: usize, number: usize) {
+    bytes[at..at + 2].copy_from_slice(&(number as u16).to_le_bytes());
+}

@@ -1,0 +1,113 @@
+//! A plain implementation of the passport-chip file machine, written from
+//! document 01 ("The intended build and its rules") alone.
+//!
+//! The parts, from the lowest up:
+//! - [`image`]: the card image, its rules, its files and the changes to them;
+//! - [`rights`]: the rights of a certificate chain;
+//! - [`session`]: rights, selected application and current place;
+//! - [`apdu`] and [`objects`]: readers of the command's shape and its data objects;
+//! - [`search`]: whether a string occurs in a window;
+//! - [`commands`]: the eight commands.
+
+#![forbid(unsafe_code)]
+
+mod apdu;
+mod commands;
+mod image;
+mod objects;
+mod rights;
+mod search;
+mod session;
+
+use image::Layout;
+use rights::Rights;
+use session::Session;
+
+/// 20 rights bytes (flags, travel, visa, 17 biometrics bytes), application (0 master file,
+/// 1 travel, 2 visa, 3 biometrics), place (0 none, 1 file, 2 file and record), file id
+/// (2 bytes, little-endian), record number; what a place does not use is zero.
+pub const SESSION_LEN: usize = 25;
+
+/// "response buffer shorter than 2,050 bytes"
+const SHORTEST_RESPONSE: usize = 2_050;
+
+/// "Calls that get no status word": the four numbers of the table.
+#[derive(Clone, Copy)]
+enum Refusal {
+    Response = 1,
+    Image = 2,
+    Rights = 3,
+    Session = 4,
+}
+
+impl Refusal {
+    /// "Each returns length 0, status 0"
+    fn result(self) -> u64 {
+        (self as u64) << 32
+    }
+}
+
+/// "Opening gives a session with these rights, the master file selected, no current file or
+/// record." "Opening tests 3 only"; "for 3, the one that 60 zero bytes open".
+///
+/// A session buffer under [`SESSION_LEN`] bytes is refusal 4 (3 if the rights are wrong too)
+/// and stays untouched. The result is refusal * 2^32.
+pub fn open(rights: &[u8], session: &mut [u8]) -> u64 {
+    let chain: Option<&[u8; rights::CHAIN_LEN]> = rights.try_into().ok();
+    let opened = Session::opened(Rights::effective(chain.unwrap_or(&[0; rights::CHAIN_LEN])));
+    let written = write_session(&opened, session);
+    match (chain, written) {
+        (None, _) => Refusal::Rights.result(),
+        (Some(_), false) => Refusal::Session.result(),
+        (Some(_), true) => 0,
+    }
+}
+
+/// "Opening tests 3 only, a command 1, 2, 4"; "For a command taken, data then SW1 SW2 are
+/// written from the buffer's start, the length counts both, and the status is
+/// 256·SW1 + SW2."
+///
+/// The result is refusal * 2^32 + length * 2^16 + status.
+pub fn command(image: &mut [u8], session: &mut [u8], command: &[u8], response: &mut [u8]) -> u64 {
+    if response.len() < SHORTEST_RESPONSE {
+        return Refusal::Response.result();
+    }
+    let Some(layout) = Layout::read(image) else {
+        return Refusal::Image.result();
+    };
+    let Some(before) = read_session(session).filter(|given| given.fits(&layout)) else {
+        return Refusal::Session.result();
+    };
+    match commands::run(image, &layout, &before, command, response) {
+        Ok(done) => {
+            write_session(&done.session, session);
+            answer(response, done.data, commands::OK)
+        }
+        Err(status) => answer(response, 0, status),
+    }
+}
+
+/// The session in the first 25 bytes of a buffer, if they are one.
+fn read_session(buffer: &[u8]) -> Option<Session> {
+    Session::from_bytes(buffer.first_chunk()?)
+}
+
+/// Writes the session into the first 25 bytes of a buffer, or nothing and `false` if it is
+/// shorter.
+fn write_session(session: &Session, buffer: &mut [u8]) -> bool {
+    match buffer.first_chunk_mut() {
+        Some(bytes) => {
+            *bytes = session.to_bytes();
+            true
+        }
+        None => false,
+    }
+}
+
+/// "data then SW1 SW2 are written from the buffer's start, the length counts both, and the
+/// status is 256·SW1 + SW2": puts the status behind `data` bytes already written.
+fn answer(response: &mut [u8], data: usize, status: commands::Status) -> u64 {
+    let length = data + 2;
+    response[data..length].copy_from_slice(&status.to_be_bytes());
+    ((length as u64) << 16) | u64::from(status)
+}
