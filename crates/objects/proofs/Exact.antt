@@ -68,13 +68,13 @@ placed {s} {base} {a} w =
 placed-none : (s : List ℕ) → Placed s 0 0 []
 placed-none s = record { inside = omega arith; size = refl; is = refl }
 
-note-one : {s : List ℕ} {r : Reading} {vs : List (List ℕ)} {start len : ℕ} {v : List ℕ} → length vs < 16 → Noted s r vs → Placed s start len v → Noted s (noted r start len) (vs ++ (v ∷ []))
+note-one : {s : List ℕ} {r : Reading} {vs : List (List ℕ)} {start len : ℕ} {v : List ℕ} → length vs < 8 → Noted s r vs → Placed s start len v → Noted s (noted r start len) (vs ++ (v ∷ []))
 note-one {s} {r} {vs} {start} {len} {v} h m p =
     let c = m .count in
     let a = m .starts in
     let b = m .lens in
     let e = length-append vs (v ∷ []) in
-    let t = lt-ltb (r .n) 16 (omega arith) in
+    let t = lt-ltb (r .n) 8 (omega arith) in
     record {
       clean = simp t (m .clean);
       count = simp t (omega arith);
@@ -92,11 +92,11 @@ note-one {s} {r} {vs} {start} {len} {v} h m p =
 
 -- what is to be shown of a form's writing at a depth
 abbrev Complete : (f : Form) → Values f → ℕ → Type 0
-Complete f v d = (base : ℕ) (r : Reading) (s : List ℕ) (us : List (List ℕ)) → Stands s base (encode f v) → length us + length (leaves f v) ≤ 16 → Noted s r us
+Complete f v d = (base : ℕ) (r : Reading) (s : List ℕ) (us : List (List ℕ)) → Stands s base (encode f v) → length us + length (leaves f v) ≤ 8 → Noted s r us
     → Noted s (readForm f d base (encode f v) r) (us ++ leaves f v)
 
 complete-value : (t lo hi : ℕ) (f : Form) (d : ℕ) (a : List ℕ) (v : Values f) → t < 65536 → 1 ≤ d → lo ≤ length a → length a ≤ hi → length (tlv t a ++ encode f v) < 65536
-    → Complete f v d → (base : ℕ) (r none : Reading) (s : List ℕ) (us : List (List ℕ)) → Stands s base (tlv t a ++ encode f v) → length us + suc (length (leaves f v)) ≤ 16 → Noted s r us
+    → Complete f v d → (base : ℕ) (r none : Reading) (s : List ℕ) (us : List (List ℕ)) → Stands s base (tlv t a ++ encode f v) → length us + suc (length (leaves f v)) ≤ 8 → Noted s r us
     → Noted s (onValue t lo hi d base (tlv t a ++ encode f v) r (readForm f d) none) (us ++ (a ∷ leaves f v))
 complete-value t lo hi f d a v p q x y z ih base r none s us w h m =
     let e = encode f v in
@@ -270,7 +270,7 @@ count-leaves (nested t g f) v = length-append (leaves g (v .0)) (leaves f (v .1)
 fresh-notes : (s : List ℕ) → Noted s fresh []
 fresh-notes s = record { clean = refl; count = refl; starts = refl; lens = refl; each = λ k h. absurd (omega arith) }
 
-module _ (f : Form) (p : Proper f) (few : leafCount f ≤ 16) where
+module _ (f : Form) (p : Proper f) (few : leafCount f ≤ 8) where
   -- every writing is read clean, and its values are noted
   pub read-complete : deep f ≤ 4 → (v : Values f) → Sized f v → length (encode f v) < 65536 → Noted (encode f v) (readBy f (encode f v)) (leaves f v)
   unfolding readBy

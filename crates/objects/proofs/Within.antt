@@ -24,7 +24,7 @@ zeros (suc n) zero = refl
 zeros (suc n) (suc k) = zeros n k
 
 fresh-within : (n : ℕ) → Within n fresh
-fresh-within n = record { starts = refl; lens = refl; each = λ k. rw (zeros 16 k) (omega arith) }
+fresh-within n = record { starts = refl; lens = refl; each = λ k. rw (zeros 8 k) (omega arith) }
 
 spoilt-within : (n : ℕ) (r : Reading) (f : Fault) (at : ℕ) → Within n r → Within n (spoilt r f at)
 spoilt-within n r f at w = record { starts = w .starts; lens = w .lens; each = w .each }
@@ -33,8 +33,8 @@ noted-within : (n : ℕ) (r : Reading) (start len : ℕ) → start + len ≤ n �
 noted-within n r start len h w =
     let a = w .starts in
     let b = w .lens in
-    pick-ind (Within n) (ltb (r .n) 16)
-    (λ e. let l = ltb-true (r .n) 16 e in record {
+    pick-ind (Within n) (ltb (r .n) 8)
+    (λ e. let l = ltb-true (r .n) 8 e in record {
       starts = simp length-set a;
       lens = simp length-set b;
       each = λ k. by-cases (eqb k (r .n))

@@ -56,7 +56,7 @@ isClean Depth = false
 
 -- before anything is read
 abbrev pub fresh : Reading
-fresh = record { fault = Clean; at = 0; n = 0; starts = replicate 16 0; lens = replicate 16 0 }
+fresh = record { fault = Clean; at = 0; n = 0; starts = replicate 8 0; lens = replicate 8 0 }
 
 -- the reading with a fault at a place
 abbrev pub spoilt : Reading → Fault → ℕ → Reading
@@ -65,7 +65,7 @@ spoilt r f at = record { fault = f; at = at; n = r .n; starts = r .starts; lens 
 -- the reading with one more place, of which it holds sixteen
 abbrev pub noted : Reading → ℕ → ℕ → Reading
 noted r start len =
-    pick (ltb (r .n) 16)
+    pick (ltb (r .n) 8)
     (record { fault = r .fault; at = r .at; n = r .n + 1; starts = set (r .starts) (r .n) start; lens = set (r .lens) (r .n) len })
     r
 

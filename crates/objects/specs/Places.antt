@@ -25,8 +25,8 @@ answered f s answer refused = let r = readBy f s in pick (isClean (r .fault)) (a
 
 -- each place that r notes lies within n bytes
 pub record Within (n : ℕ) (r : Reading) : Type 0 where
-  pub starts : length (r .starts) ≡ 16
-  pub lens : length (r .lens) ≡ 16
+  pub starts : length (r .starts) ≡ 8
+  pub lens : length (r .lens) ≡ 8
   pub each : (k : ℕ) → getD (r .starts) k 0 + getD (r .lens) k 0 ≤ n
 
 -- the len bytes of s from start on are v
@@ -39,8 +39,8 @@ pub record Placed (s : List ℕ) (start len : ℕ) (v : List ℕ) : Type 0 where
 pub record Noted (s : List ℕ) (r : Reading) (vs : List (List ℕ)) : Type 0 where
   pub clean : isClean (r .fault) ≡ true
   pub count : r .n ≡ length vs
-  pub starts : length (r .starts) ≡ 16
-  pub lens : length (r .lens) ≡ 16
+  pub starts : length (r .starts) ≡ 8
+  pub lens : length (r .lens) ≡ 8
   pub each : (k : ℕ) → k < length vs → Placed s (getD (r .starts) k 0) (getD (r .lens) k 0) (getD vs k [])
 
 -- s is a writing of the form's objects, of the sizes that it says, and r notes each value

@@ -32,8 +32,8 @@ pub struct Reading {
     pub fault: Fault,
     pub at: usize,
     pub n: usize,
-    pub starts: [u16; 16],
-    pub lens: [u16; 16],
+    pub starts: [u16; 8],
+    pub lens: [u16; 8],
 }
 
 // The reading with a fault noted.
@@ -58,7 +58,7 @@ fn note(r: Reading, start: usize, len: usize) -> Reading
 {
     let n = r.n;
     let mut q = r;
-    if n < 16 {
+    if n < 8 {
         q.starts[n] = start as u16;
         q.lens[n] = len as u16;
         q.n = n + 1;
@@ -190,8 +190,8 @@ pub fn read(s: &[u8], form: &[[u16; 5]]) -> Reading
         fault: Fault::Clean,
         at: 0,
         n: 0,
-        starts: [0; 16],
-        lens: [0; 16],
+        starts: [0; 8],
+        lens: [0; 8],
     };
     if 65535 < s.len() {
         return spoil(r, Fault::Length, 0);

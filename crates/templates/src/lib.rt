@@ -72,7 +72,7 @@ pub const REFERENCE: [[u16; 5]; 1] = [[0x51, 0, 1, 1, 2]];
 
 // The k-th place that r notes.
 fn place_at(r: Reading, k: usize) -> Place
-    requires { ⌜ k < 16 ⌝ }
+    requires { ⌜ k < 8 ⌝ }
     ensures { λ p. ⌜ p ≡ placeAt r k ⌝ }
 {
     let starts = r.starts;
@@ -85,7 +85,7 @@ fn place_at(r: Reading, k: usize) -> Place
 
 // The number that stands at the k-th place that r notes.
 fn number_at(s: &[u8], r: Reading, k: usize) -> usize
-    requires { ⌜ (k < 16) × Within (length (now s)) r ⌝ }
+    requires { ⌜ (k < 8) × Within (length (now s)) r ⌝ }
     ensures { λ n. ⌜ n ≡ numberAt (now (s .entry)) r k ⌝ }
 {
     let p = place_at(r, k);

@@ -47,13 +47,13 @@ filled-more t table k v h f l q a b =
     (λ z. rw (getD-set-other table (k + 1) q v 0 (λ e. omega arith)) (f q a (omega arith)))
     (eq-or-lt-of-le b)
 
-pub built-start : (t : List ℕ) (end : ℕ) → 1 ≤ end → Built t (replicate 1024 1) end 1 0
+pub built-start : (t : List ℕ) (end : ℕ) → 1 ≤ end → Built t (replicate 930 1) end 1 0
 built-start t end h = record {
   first = omega arith;
   within = omega arith;
   stands = λ i j. absurd (omega arith);
   none = λ d x y b. absurd (omega arith);
-  filled = λ q a b. let e = getD-replicate {A = ℕ} 1024 q 1 0 (omega arith) in rw e (record {
+  filled = λ q a b. let e = getD-replicate {A = ℕ} 930 q 1 0 (omega arith) in rw e (record {
     low = omega arith;
     high = a;
     stands = λ i j. absurd (omega arith);

@@ -5,8 +5,8 @@ ghost use lib.ListN.{length};
 ghost use Rattle.window.specs.Window.{occursIn, windowOf, matchesIn};
 ghost use Rattle.window.specs.Seeking.{Sought, Stand, Ran, Filled};
 
-// How many of a string's bytes the table of moves reaches. A longer one is found too, at more cost.
-const REACH: usize = 1023;
+// How many of a string's bytes the table of moves reaches: as many as the longest record has. A longer string is found too, at more cost.
+const REACH: usize = 929;
 
 // The first place from `from` up to last where w has the byte b, or one above last.
 fn seek(w: &[u8], from: usize, last: usize, b: u8) -> usize
@@ -40,7 +40,7 @@ fn run(w: &[u8], p: usize, text: &[u8], q: usize) -> usize
 
 // How many of n bytes the table reaches.
 fn reached(n: usize) -> usize
-    ensures { λ r. ⌜ r ≡ min n 1023 ⌝ }
+    ensures { λ r. ⌜ r ≡ min n 929 ⌝ }
 {
     if n < REACH {
         return n;
@@ -50,12 +50,12 @@ fn reached(n: usize) -> usize
 
 // For each number of text's first bytes, the least number of places by which they can be moved on over themselves. In the loop q of
 // them stand in text from p on, and no move smaller than p is left for the p + q bytes up to there and the next.
-fn moves(text: &[u8]) -> [u16; 1024]
+fn moves(text: &[u8]) -> [u16; 930]
     requires { ⌜ 1 ≤ length (now text) ⌝ }
-    ensures { λ r. ⌜ Filled (now (text .entry)) r (min (length (now (text .entry))) 1023) ⌝ }
+    ensures { λ r. ⌜ Filled (now (text .entry)) r (min (length (now (text .entry))) 929) ⌝ }
 {
     let end = reached(text.len());
-    let mut table = [1u16; 1024];
+    let mut table = [1u16; 930];
     let mut p = 1;
     let mut q = 0;
     while p + q < end {

@@ -10,7 +10,7 @@ use Rattle.window.proofs.moves.Statement.{statement}
 use Rattle.window.proofs.moves.Tie as tie
 
 abbrev Inv-loop : tie.InvT-loop
-Inv-loop text end table₀ p₀ q₀ table p q = (end ≡ min (length text) 1023) × (length table ≡ 1024) × Built text table end p q
+Inv-loop text end table₀ p₀ q₀ table p q = (end ≡ min (length text) 929) × (length table ≡ 930) × Built text table end p q
 
 abbrev μ-loop : tie.MeasureT-loop
 μ-loop text end table₀ p₀ q₀ table p q = end - p + (end - (p + q))
