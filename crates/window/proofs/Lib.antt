@@ -2,3 +2,4 @@
 pub mod Occurring
 pub mod Windows
 pub mod Moving
+pub mod Clearing

@@ -4,10 +4,14 @@ use mathlib.Core.Path.{_≡_}
 use mathlib.Core.List.{List}
 use lib.ListN.{length, getD}
 
+-- w has no b from `from` on up to a place before r
+abbrev pub Clear : List ℕ → ℕ → ℕ → ℕ → Type 0
+Clear w b from r = (k : ℕ) → from ≤ k → k < r → getD w k 0 ≡ b → ⊥
+
 -- r is the first place from `from` up to last where w has b, or one above last
 pub record Sought (w : List ℕ) (from last b r : ℕ) : Type 0 where
   pub low : from ≤ r
-  pub none : (k : ℕ) → from ≤ k → k < r → getD w k 0 ≡ b → ⊥
+  pub none : Clear w b from r
   pub found : r ≤ last → getD w r 0 ≡ b
 
 -- the first k bytes of t stand in w from p on

@@ -1,19 +1,48 @@
 // The match of SEARCH RECORD: a string anywhere in a record's window.
 ghost use mathlib.Core.Path.{_≡_};
+ghost use mathlib.Core.Bool.{true};
 ghost use Prim.Native.Nat.{_+_, _≤_, _<_, min};
 ghost use lib.ListN.{length};
 ghost use Rattle.window.specs.Window.{occursIn, windowOf, matchesIn};
-ghost use Rattle.window.specs.Seeking.{Sought, Stand, Ran, Filled};
+ghost use Rattle.window.specs.Seeking.{Clear, Sought, Stand, Ran, Filled};
 
 // How many of a string's bytes the table of moves reaches: as many as the longest record has. A longer string is found too, at more cost.
 const REACH: usize = 929;
+
+// Whether none of the eight bytes from j on is b. All eight are looked at, without a branch between them.
+fn clear(w: &[u8], j: usize, b: u8) -> bool
+    requires { ⌜ j + 8 ≤ length (now w) ⌝ }
+    ensures { λ r. ⌜ (r ≡ true → Clear (now (w .entry)) b j (j + 8)) ⌝ }
+{
+    let low = (w[j] != b) & (w[j + 1] != b) & (w[j + 2] != b) & (w[j + 3] != b);
+    let high = (w[j + 4] != b) & (w[j + 5] != b) & (w[j + 6] != b) & (w[j + 7] != b);
+    low & high
+}
+
+// A place from `from` on, up to one above last, before which b is not: eight bytes at a time.
+fn skip(w: &[u8], from: usize, last: usize, b: u8) -> usize
+    requires { ⌜ last < length (now w) ⌝ }
+    ensures { λ r. ⌜ (from ≤ r) × Clear (now (w .entry)) b from r ⌝ }
+{
+    let mut j = from;
+    while j <= last {
+        if last - j < 7 {
+            return j;
+        }
+        if !clear(w, j, b) {
+            return j;
+        }
+        j += 8;
+    }
+    j
+}
 
 // The first place from `from` up to last where w has the byte b, or one above last.
 fn seek(w: &[u8], from: usize, last: usize, b: u8) -> usize
     requires { ⌜ last < length (now w) ⌝ }
     ensures { λ r. ⌜ Sought (now (w .entry)) from last b r ⌝ }
 {
-    let mut j = from;
+    let mut j = skip(w, from, last, b);
     while j <= last {
         if w[j] == b {
             return j;
