@@ -32,7 +32,7 @@ extern "C" {
 size_t malquindo_session_len(void);
 
 /* Opens a session with the rights of three certificates of 20 bytes each. Refusal 3: rights_len is not 60; the session
- * written is the one that 60 zero bytes open. Refusal 4: session_len is too small; nothing is written. */
+ * written is the one that 60 zero bytes open. Refusal 4: session_len is too small. Where it is, nothing is written. */
 uint64_t malquindo_open(const uint8_t *rights, size_t rights_len, uint8_t *session, size_t session_len);
 
 /* One command. The response buffer has at least 2,050 bytes. */

@@ -1,0 +1,251 @@
+//! The calls to time: card, session and command.
+
+use difference::make::{self, Apdu, LONGEST_IMAGE, RULES};
+use difference::random::Random;
+
+pub const LONGEST_RECORD: usize = 391;
+pub const MOST_RECORDS: usize = 254;
+
+const TRAVEL: u8 = 1;
+const BIOMETRICS: u8 = 3;
+
+pub struct Case {
+    pub name: String,
+    /// What the buffers hold.
+    pub held: String,
+    pub image: Vec<u8>,
+    pub session: Vec<u8>,
+    pub command: Vec<u8>,
+    pub status: u16,
+    /// Whether the command changes the image.
+    pub changes: bool,
+}
+
+impl Case {
+    fn new(name: &str, held: &str, image: &[u8], application: u8, command: Apdu) -> Self {
+        Self {
+            name: name.to_string(),
+            held: held.to_string(),
+            image: image.to_vec(),
+            session: session(application),
+            command: command.bytes(),
+            status: 0x9000,
+            changes: false,
+        }
+    }
+
+    fn changes(mut self) -> Self {
+        self.changes = true;
+        self
+    }
+
+    fn status(mut self, status: u16) -> Self {
+        self.status = status;
+        self
+    }
+}
+
+/// A session with all rights and this application selected.
+fn session(application: u8) -> Vec<u8> {
+    let opened = malquindo::open(&[0xFF; make::RIGHTS_LEN]).expect("60 bytes open a session");
+    let mut session = opened.as_bytes().to_vec();
+    session[20] = application;
+    session
+}
+
+/// A card with travel alone; EntryRecords holds the records and has `free` bytes left.
+fn travel_card(entry_records: &[Vec<u8>], free: usize) -> Vec<u8> {
+    let mut entry = make::records(entry_records);
+    entry.resize(entry.len() + free, 0);
+    [
+        make::section(0x0101, &entry),
+        make::section(0x0102, &[0; 40]),
+        make::section(0x011A, &[0; 40]),
+    ]
+    .concat()
+}
+
+/// Records of 391 random bytes.
+fn random_records(count: usize) -> Vec<Vec<u8>> {
+    let mut random = Random::new(391);
+    (0..count).map(|_| random.bytes(LONGEST_RECORD)).collect()
+}
+
+fn records_of_a(count: usize) -> Vec<Vec<u8>> {
+    vec![vec![b'a'; LONGEST_RECORD]; count]
+}
+
+fn biometrics_card() -> Vec<u8> {
+    let room = Random::new(4_096).bytes(4_096);
+    [
+        make::section(0x031A, &[0; 40]),
+        make::section(0x0401, &make::biometrics(0, room.len(), &room)),
+    ]
+    .concat()
+}
+
+fn select_travel() -> Apdu {
+    Apdu::new(0x00, 0xA4, 0x04, 0x0C).data(make::aid(TRAVEL).to_vec())
+}
+
+fn read_record(number: usize, low_bits: u8) -> Apdu {
+    Apdu::new(0x00, 0xB2, number as u8, 0x01 << 3 | low_bits)
+        .le(0)
+        .extended(true)
+}
+
+fn search(string: &[u8]) -> Apdu {
+    let data = make::search(make::object, &[0x01], 0x00, [&[0], &[0]], string);
+    Apdu::new(0x00, 0xA2, 0x00, 0xF8)
+        .data(data)
+        .le(0)
+        .extended(true)
+}
+
+pub fn select() -> [Case; 2] {
+    let held = "document 01's card (138 bytes)";
+    let small = travel_card(&[], 38);
+    let full = travel_card(&random_records(MOST_RECORDS), 0);
+    [
+        Case::new("SELECT application", held, &small, 0, select_travel()),
+        Case::new(
+            "SELECT application",
+            "254 records of 391 bytes in EntryRecords",
+            &full,
+            0,
+            select_travel(),
+        ),
+    ]
+}
+
+pub fn read_binary() -> Case {
+    let command = Apdu::new(0x00, 0xB0, 0x00, 0x00).le(0).extended(true);
+    let held = "Biometrics 1 current, 4,096 bytes written";
+    let name = "READ BINARY of 2,048 bytes";
+    let mut case = Case::new(name, held, &biometrics_card(), BIOMETRICS, command);
+    case.session[21..24].copy_from_slice(&[1, 0x01, 0x02]);
+    case
+}
+
+pub fn update_binary() -> Case {
+    let bytes = Random::new(1_000).bytes(1_000);
+    let data = [make::object(&[0x54], &[0]), make::object(&[0x53], &bytes)];
+    let command = Apdu::new(0x00, 0xD7, 0x02, 0x01).data(data.concat());
+    let held = "Biometrics 1, Deactivated, room 4,096";
+    let name = "UPDATE BINARY of 1,000 bytes";
+    Case::new(name, held, &biometrics_card(), BIOMETRICS, command).changes()
+}
+
+pub fn append_record() -> Case {
+    let card = travel_card(&random_records(253), 2 + LONGEST_RECORD);
+    let command = Apdu::new(0x00, 0xE2, 0x00, 0x08).data(vec![7; LONGEST_RECORD]);
+    let held = "253 records of 391 bytes";
+    let name = "APPEND RECORD of 391 bytes";
+    Case::new(name, held, &card, TRAVEL, command).changes()
+}
+
+/// READ RECORD of the first and the last of so many records.
+pub fn read_one(number: usize, count: usize) -> Case {
+    let card = travel_card(&random_records(count), 0);
+    let name = format!("READ RECORD {number}");
+    let held = format!("{count} records of 391 bytes");
+    Case::new(&name, &held, &card, TRAVEL, read_record(number, 0b100))
+}
+
+pub fn read_all() -> Case {
+    let card = travel_card(&random_records(MOST_RECORDS), 0);
+    let held = "254 records of 391 bytes";
+    let name = "READ RECORD 1 to last, cut at 2,048 bytes";
+    Case::new(name, held, &card, TRAVEL, read_record(1, 0b101))
+}
+
+/// A string of three bytes that occurs in no record.
+pub fn search_three(count: usize) -> Case {
+    let card = travel_card(&random_records(count), 0);
+    let held = format!("{count} records of 391 random bytes");
+    let name = "SEARCH RECORD, 3 bytes that occur nowhere";
+    Case::new(name, &held, &card, TRAVEL, search(b"USA")).status(0x6282)
+}
+
+/// Records all of one letter, and a string that almost occurs at every place.
+pub fn search_almost(shape: &str, string: &[u8]) -> Case {
+    let card = travel_card(&records_of_a(MOST_RECORDS), 0);
+    let held = format!(
+        "254 records of 391 times 'a', string of {} bytes, {shape}",
+        string.len()
+    );
+    let name = "SEARCH RECORD, a string that almost occurs";
+    Case::new(name, &held, &card, TRAVEL, search(string)).status(0x6282)
+}
+
+/// Strings that make a search compare much for nothing: the one letter that is not there stands
+/// at or near the end, at or near the start, or in the middle.
+pub fn almost_strings() -> Vec<(&'static str, Vec<u8>)> {
+    let mut strings = Vec::new();
+    for length in [
+        2, 3, 4, 8, 16, 32, 64, 98, 130, 146, 160, 176, 196, 212, 230, 260, 300, 350, 391,
+    ] {
+        for (shape, at) in [
+            ("'b' last", length - 1),
+            ("'b' last but one", length - 2),
+            ("'b' in the middle", length / 2),
+            ("'b' second", 1),
+            ("'b' first", 0),
+        ] {
+            let mut string = vec![b'a'; length];
+            string[at] = b'b';
+            strings.push((shape, string));
+        }
+    }
+    strings
+}
+
+pub fn fmm() -> Case {
+    let card = travel_card(&random_records(MOST_RECORDS), 0);
+    let command = Apdu::new(0x80, 0x5E, 0x01, 0x07)
+        .data(make::object(&[0x51], &[0x01 << 3]))
+        .le(0);
+    let held = "254 records of 391 bytes";
+    Case::new("FMM, P2 07, by short id", held, &card, TRAVEL, command)
+}
+
+/// The longest image there is, with every file, every record and every biometrics file that an
+/// image may have, and a command that ends at step 1.
+pub fn validation() -> Case {
+    let mut image = Vec::new();
+    for rule in &RULES {
+        let body = make::records(&vec![vec![5; 100]; rule.most]);
+        image.extend(make::section(rule.kind, &body));
+    }
+    let left = LONGEST_IMAGE - image.len();
+    for n in 1..=64 {
+        // The last file takes what the division left over.
+        let whole = if n == 64 {
+            left - 63 * (left / 64)
+        } else {
+            left / 64
+        };
+        let room = vec![9; whole - make::SECTION_HEADER - 5];
+        let body = make::biometrics(0, room.len(), &room);
+        image.extend(make::section(make::BIOMETRICS_KIND + n, &body));
+    }
+    assert_eq!(image.len(), LONGEST_IMAGE);
+    let mut case = Case::new(
+        "validation (a command of no bytes)",
+        "262,144 bytes: 1,334 records of 100 bytes in six files, 64 biometrics files",
+        &image,
+        0,
+        select_travel(),
+    );
+    case.command.clear();
+    case.status(0x6700)
+}
+
+/// A search with a long string, for the stack; one of 980 bytes is about the longest there is.
+pub fn search_long(length: usize) -> Case {
+    let mut string = vec![b'a'; length];
+    string[length - 1] = b'b';
+    let mut case = search_almost("'b' last", &string);
+    case.name = "SEARCH RECORD".to_string();
+    case
+}

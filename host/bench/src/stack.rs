@@ -1,0 +1,105 @@
+//! The stack one call uses, measured: the call runs on a painted stack of its own, and the lowest
+//! byte that lost its paint tells how deep it went.
+
+use crate::cases::Case;
+use std::arch::asm;
+
+const STACK_LEN: usize = 1 << 20;
+/// Two paints, for a byte written may happen to have one paint's value.
+const PAINTS: [u8; 2] = [0xA5, 0x3C];
+
+type Command =
+    unsafe extern "C" fn(*mut u8, usize, *mut u8, usize, *const u8, usize, *mut u8, usize) -> u64;
+
+/// What the trampoline hands on.
+struct Call {
+    function: Command,
+    image: Vec<u8>,
+    session: Vec<u8>,
+    command: Vec<u8>,
+    response: Vec<u8>,
+    result: u64,
+}
+
+/// Bytes of stack that the proved library uses in this call, below those of the trampoline and
+/// of a function that does nothing.
+pub fn of_case(case: &Case) -> usize {
+    let used = depth(case, malquindo_sys::malquindo_command, case.status);
+    used - depth(case, nothing, 0)
+}
+
+/// The deepest of a run with each paint; the status shows that the call ran as meant.
+fn depth(case: &Case, function: Command, status: u16) -> usize {
+    let deepest = PAINTS.iter().map(|paint| {
+        let mut call = Call {
+            function,
+            image: case.image.clone(),
+            session: case.session.clone(),
+            command: case.command.clone(),
+            response: vec![0; 2_050],
+            result: 0,
+        };
+        let depth = painted_depth(*paint, &mut call);
+        assert_eq!(call.result as u16, status, "{}", case.name);
+        depth
+    });
+    deepest.max().unwrap_or(0)
+}
+
+/// Takes what `malquindo_command` takes and does nothing.
+unsafe extern "C" fn nothing(
+    _: *mut u8,
+    _: usize,
+    _: *mut u8,
+    _: usize,
+    _: *const u8,
+    _: usize,
+    _: *mut u8,
+    _: usize,
+) -> u64 {
+    0
+}
+
+/// Calls the function with the call's buffers.
+///
+/// # Safety
+/// `call` points to a call that nothing else uses meanwhile.
+unsafe extern "C" fn trampoline(call: *mut Call) {
+    let call = &mut *call;
+    call.result = (call.function)(
+        call.image.as_mut_ptr(),
+        call.image.len(),
+        call.session.as_mut_ptr(),
+        call.session.len(),
+        call.command.as_ptr(),
+        call.command.len(),
+        call.response.as_mut_ptr(),
+        call.response.len(),
+    );
+}
+
+/// How many bytes from the top down to the lowest one that lost its paint.
+fn painted_depth(paint: u8, call: &mut Call) -> usize {
+    let mut stack = vec![paint; STACK_LEN + 16];
+    let start = stack.as_mut_ptr();
+    // A stack pointer is a multiple of 16 before a call.
+    let top = start.wrapping_add(STACK_LEN + 16 - (start as usize) % 16);
+    // SAFETY: `top` is within the buffer, which is far larger than any call needs; r12 keeps the
+    // old stack pointer, as the callee gives it back; the callee does not unwind, since neither
+    // the trampoline nor the library panics.
+    unsafe {
+        asm!(
+            "mov r12, rsp",
+            "mov rsp, {top}",
+            "call {trampoline}",
+            "mov rsp, r12",
+            top = in(reg) top,
+            trampoline = in(reg) trampoline as unsafe extern "C" fn(*mut Call),
+            inout("rdi") call as *mut Call => _,
+            out("r12") _,
+            clobber_abi("C"),
+        );
+    }
+    let untouched = stack.iter().take_while(|byte| **byte == paint).count();
+    (top as usize - start as usize) - untouched
+}

@@ -1,0 +1,35 @@
+/* Document 01's card to try: selects travel (m1), appends a record (m2), reads it back (m4). */
+#include <stdio.h>
+#include "malquindo.h"
+
+static uint8_t image[3 * 46] = {
+    [0] = 40, [4] = 0x01, [5] = 0x01,    /* 0101 EntryRecords, a body of 40 bytes, no records */
+    [46] = 40, [50] = 0x02, [51] = 0x01, /* 0102 ExitRecords */
+    [92] = 40, [96] = 0x1A, [97] = 0x01, /* 011A travel certificates */
+};
+static uint8_t session[25];
+static uint8_t response[2050];
+
+static int run(const uint8_t *command, size_t command_len)
+{
+    uint64_t result = malquindo_command(image, sizeof image, session, sizeof session,
+                                        command, command_len, response, sizeof response);
+    for (size_t i = 0; i < malquindo_length(result); i++)
+        printf("%02X", response[i]);
+    printf("\n");
+    return malquindo_status(result) != 0x9000;
+}
+
+int main(void)
+{
+    static const uint8_t m1[] = {0x00, 0xA4, 0x04, 0x0C, 0x07, 0xA0, 0x00, 0x00, 0x02, 0x47, 0x20, 0x01};
+    static const uint8_t m2[] = {0x00, 0xE2, 0x00, 0x08, 0x06, 0x5F, 0x44, 0x03, 0x55, 0x53, 0x41};
+    static const uint8_t m4[] = {0x00, 0xB2, 0x01, 0x05, 0x00, 0x00, 0x00};
+    uint8_t rights[60];
+    for (size_t i = 0; i < sizeof rights; i++)
+        rights[i] = 0xFF;
+    if (malquindo_session_len() != sizeof session
+        || malquindo_open(rights, sizeof rights, session, sizeof session) != 0)
+        return 1;
+    return run(m1, sizeof m1) || run(m2, sizeof m2) || run(m4, sizeof m4);
+}

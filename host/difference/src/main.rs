@@ -1,0 +1,40 @@
+//! Compares the proved library with the reference: `difference --seed N --calls N`.
+
+use difference::compare::compare;
+use std::process::ExitCode;
+use std::time::Instant;
+
+fn main() -> ExitCode {
+    let Some((seed, calls)) = arguments() else {
+        eprintln!("usage: difference [--seed N] [--calls N]");
+        return ExitCode::from(2);
+    };
+    let start = Instant::now();
+    match compare(seed, calls) {
+        Ok(tally) => {
+            println!("seed {seed}: no difference in {} calls", tally.calls());
+            println!("{:.1} seconds\n", start.elapsed().as_secs_f64());
+            print!("{tally}");
+            ExitCode::SUCCESS
+        }
+        Err(difference) => {
+            print!("{difference}");
+            ExitCode::FAILURE
+        }
+    }
+}
+
+/// Seed and calls, each with a value to go by where it is not given.
+fn arguments() -> Option<(u64, u64)> {
+    let (mut seed, mut calls) = (1, 100_000);
+    let mut arguments = std::env::args().skip(1);
+    while let Some(name) = arguments.next() {
+        let value = arguments.next()?.parse().ok()?;
+        match name.as_str() {
+            "--seed" => seed = value,
+            "--calls" => calls = value,
+            _ => return None,
+        }
+    }
+    Some((seed, calls))
+}

@@ -1,0 +1,175 @@
+//! The bytes of images and data objects, put together by document 01's rules.
+
+/// One line of document 01's table of record files.
+pub struct Rule {
+    pub kind: u16,
+    /// 1 travel, 2 visa, 3 biometrics, as in a session.
+    pub application: u8,
+    pub id: u16,
+    pub short_id: u8,
+    pub longest: usize,
+    pub most: usize,
+}
+
+const fn rule(kind: u16, id: u16, longest: usize, most: usize) -> Rule {
+    Rule {
+        kind,
+        application: (kind >> 8) as u8,
+        id,
+        short_id: id as u8,
+        longest,
+        most,
+    }
+}
+
+pub static RULES: [Rule; 6] = [
+    rule(0x0101, 0x0101, 391, 254),
+    rule(0x0102, 0x0102, 391, 254),
+    rule(0x011A, 0x011A, 929, 254),
+    rule(0x0203, 0x0103, 512, 254),
+    rule(0x021A, 0x011A, 929, 254),
+    rule(0x031A, 0x011A, 929, 64),
+];
+
+/// The first kind and id of a biometrics file are one above these.
+pub const BIOMETRICS_KIND: u16 = 0x0400;
+pub const BIOMETRICS_ID: u16 = 0x0200;
+pub const LONGEST_IMAGE: usize = 262_144;
+pub const LARGEST_ROOM: usize = 32_768;
+pub const SECTION_HEADER: usize = 6;
+pub const SESSION_LEN: usize = 25;
+pub const RIGHTS_LEN: usize = 60;
+pub const SHORTEST_RESPONSE: usize = 2_050;
+
+/// The AIDs, eMRTD's first, then by the application's number.
+pub fn aid(application: u8) -> [u8; 7] {
+    let [high, low] = match application {
+        0 => [0x10, 0x01],
+        n => [0x20, n],
+    };
+    [0xA0, 0x00, 0x00, 0x02, 0x47, high, low]
+}
+
+pub fn section(kind: u16, body: &[u8]) -> Vec<u8> {
+    let mut bytes = (body.len() as u32).to_le_bytes().to_vec();
+    bytes.extend(kind.to_le_bytes());
+    bytes.extend(body);
+    bytes
+}
+
+/// A record body without free room.
+pub fn records<R: AsRef<[u8]>>(records: &[R]) -> Vec<u8> {
+    let mut body = (records.len() as u16).to_le_bytes().to_vec();
+    for record in records {
+        body.extend((record.as_ref().len() as u16).to_le_bytes());
+        body.extend(record.as_ref());
+    }
+    body
+}
+
+/// A biometrics body; `room` says how many bytes its room has, of which the first are written.
+pub fn biometrics(state: u8, written: usize, room: &[u8]) -> Vec<u8> {
+    let mut body = vec![state];
+    body.extend((written as u32).to_le_bytes());
+    body.extend(room);
+    body
+}
+
+/// A data object with the length form that document 01 asks for.
+pub fn object(tag: &[u8], value: &[u8]) -> Vec<u8> {
+    let mut bytes = tag.to_vec();
+    match value.len() {
+        n @ 0..=0x7F => bytes.push(n as u8),
+        n @ 0x80..=0xFF => bytes.extend([0x81, n as u8]),
+        n => bytes.extend([0x82, (n >> 8) as u8, n as u8]),
+    }
+    bytes.extend(value);
+    bytes
+}
+
+/// The data field of a SEARCH RECORD, its objects made by a function like [`object`].
+pub fn search(
+    mut object: impl FnMut(&[u8], &[u8]) -> Vec<u8>,
+    file: &[u8],
+    how: u8,
+    window: [&[u8]; 2],
+    string: &[u8],
+) -> Vec<u8> {
+    let window = window.map(|number| object(&[0x02], number)).concat();
+    let configuration = [object(&[0x80], &[how]), object(&[0xB0], &window)].concat();
+    let string = object(&[0x81], string);
+    let strings = object(&[0xB1], &string);
+    let inside = [
+        object(&[0x51], file),
+        object(&[0xA1], &configuration),
+        object(&[0xA3], &strings),
+    ];
+    object(&[0x7F, 0x76], &inside.concat())
+}
+
+/// A command before it is put into one of ISO's seven shapes.
+#[derive(Clone)]
+pub struct Apdu {
+    pub cla: u8,
+    pub ins: u8,
+    pub p1: u8,
+    pub p2: u8,
+    pub data: Option<Vec<u8>>,
+    pub le: Option<u16>,
+    pub extended: bool,
+}
+
+impl Apdu {
+    pub fn new(cla: u8, ins: u8, p1: u8, p2: u8) -> Self {
+        Self {
+            cla,
+            ins,
+            p1,
+            p2,
+            data: None,
+            le: None,
+            extended: false,
+        }
+    }
+
+    pub fn data(mut self, data: Vec<u8>) -> Self {
+        self.data = Some(data);
+        self
+    }
+
+    pub fn le(mut self, le: u16) -> Self {
+        self.le = Some(le);
+        self
+    }
+
+    pub fn extended(mut self, extended: bool) -> Self {
+        self.extended = extended;
+        self
+    }
+
+    /// The command's bytes. Data too long for a short Lc take the extended shape.
+    pub fn bytes(&self) -> Vec<u8> {
+        let mut bytes = vec![self.cla, self.ins, self.p1, self.p2];
+        let length = self.data.as_ref().map_or(0, Vec::len);
+        let extended = self.extended || length > 255;
+        if extended && (self.data.is_some() || self.le.is_some()) {
+            bytes.push(0);
+        }
+        if let Some(data) = &self.data {
+            put_number(&mut bytes, length as u16, extended);
+            bytes.extend(data);
+        }
+        if let Some(le) = self.le {
+            put_number(&mut bytes, le, extended);
+        }
+        bytes
+    }
+}
+
+fn put_number(bytes: &mut Vec<u8>, number: u16, extended: bool) {
+    let [high, low] = number.to_be_bytes();
+    if extended {
+        bytes.push(high);
+    }
+    bytes.push(low);
+}

@@ -1,0 +1,162 @@
+//! The calls of a run, in sequences on one card each. A sequence goes on from what its own
+//! commands left.
+
+use crate::card::{self, Size};
+use crate::command;
+use crate::make::{SESSION_LEN, SHORTEST_RESPONSE};
+use crate::random::Random;
+use crate::rights;
+use crate::view::View;
+use std::collections::VecDeque;
+
+/// One thing to do. An image or a session stays until another comes.
+#[derive(Clone)]
+pub enum Step {
+    Image(Vec<u8>),
+    Session(Vec<u8>),
+    Open(Vec<u8>),
+    Command {
+        response_len: usize,
+        command: Vec<u8>,
+    },
+}
+
+/// What one side holds.
+#[derive(Clone, Default, PartialEq, Eq)]
+pub struct State {
+    pub image: Vec<u8>,
+    pub session: Vec<u8>,
+    /// The result of the last call.
+    pub result: u64,
+}
+
+impl State {
+    pub fn refusal(&self) -> u64 {
+        self.result >> 32
+    }
+}
+
+pub struct Sequence {
+    random: Random,
+    size: Size,
+    pending: VecDeque<Step>,
+    commands_left: usize,
+    damages_left: usize,
+    /// The last session that was not refused.
+    session: Option<Vec<u8>>,
+    /// The image as the commands left it, once damage begins.
+    image: Option<Vec<u8>>,
+}
+
+impl Sequence {
+    /// The sequence of this number in the run of this seed.
+    pub fn new(seed: u64, number: u64, size: Size) -> Self {
+        let mut random = Random::part(seed, number);
+        let image = card::image(&mut random, size);
+        let session_len = match random.below(8) {
+            0 => random.between(SESSION_LEN, 40),
+            _ => SESSION_LEN,
+        };
+        let session = random.bytes(session_len);
+        let rights = rights::chain(&mut random);
+        let damages_left = match size {
+            Size::Small => random.below(3),
+            Size::Any => random.below(6),
+        };
+        Self {
+            pending: [
+                Step::Image(image),
+                Step::Session(session),
+                Step::Open(rights),
+            ]
+            .into(),
+            commands_left: random.between(36, 44),
+            damages_left,
+            random,
+            size,
+            session: None,
+            image: None,
+        }
+    }
+
+    /// The next step, made for what the calls so far left; none at the sequence's end.
+    pub fn next(&mut self, state: &State) -> Option<Step> {
+        if self.pending.is_empty() {
+            if self.commands_left > 0 {
+                self.commands_left -= 1;
+                self.plan(state);
+            } else if self.damages_left > 0 {
+                self.damages_left -= 1;
+                self.plan_damage(state);
+            }
+        }
+        self.pending.pop_front()
+    }
+
+    fn plan(&mut self, state: &State) {
+        let session = self.good_session(state);
+        let view = View::new(&state.image, &session);
+        match self.random.below(100) {
+            0..=2 => {
+                let made_up = rights::session(&mut self.random, &view, &session);
+                let view = View::new(&state.image, &made_up);
+                self.pending.push_back(Step::Session(made_up));
+                if self.random.one_in(6) {
+                    self.plan_open();
+                } else {
+                    self.plan_command(&view, &state.image);
+                }
+            }
+            3..=4 => self.plan_open(),
+            _ => self.plan_command(&view, &state.image),
+        }
+    }
+
+    /// The session to go on with. One that was refused gives way to the last that was not.
+    fn good_session(&mut self, state: &State) -> Vec<u8> {
+        match (&self.session, state.refusal()) {
+            (Some(session), 3 | 4) => {
+                self.pending.push_back(Step::Session(session.clone()));
+                session.clone()
+            }
+            // These two say nothing about the session.
+            (Some(_), 1 | 2) => state.session.clone(),
+            _ => {
+                self.session = Some(state.session.clone());
+                state.session.clone()
+            }
+        }
+    }
+
+    fn plan_open(&mut self) {
+        let rights = match self.random.below(3) {
+            0 => rights::no_chain(&mut self.random),
+            _ => rights::chain(&mut self.random),
+        };
+        self.pending.push_back(Step::Open(rights));
+    }
+
+    fn plan_command(&mut self, view: &View, image: &[u8]) {
+        let response_len = match self.random.below(60) {
+            0 => self.random.pick(&[0, 1, 2, 256, SHORTEST_RESPONSE - 1]),
+            1 => self.random.between(0, SHORTEST_RESPONSE - 1),
+            2 | 3 => SHORTEST_RESPONSE,
+            _ => self.random.between(SHORTEST_RESPONSE, 2_100),
+        };
+        let command = command::command(&mut self.random, view, image, self.size);
+        self.pending.push_back(Step::Command {
+            response_len,
+            command,
+        });
+    }
+
+    /// A damaged image in place of the card's, and one command on it.
+    fn plan_damage(&mut self, state: &State) {
+        let session = self.good_session(state);
+        let image = self.image.get_or_insert_with(|| state.image.clone());
+        let damaged = card::damaged(&mut self.random, image, self.size);
+        let view = View::new(&damaged, &session);
+        self.pending.push_back(Step::Image(damaged.clone()));
+        self.plan_command(&view, &damaged);
+    }
+}

@@ -1,0 +1,136 @@
+//! A sample of calls as data for a program of the proved repository: what it reads, and what it
+//! should print by the reference alone.
+
+use crate::card::Size;
+use crate::sequence::{Sequence, State, Step};
+use crate::tally::Tally;
+use std::fmt::Write;
+
+/// The seed of the sample that is kept as data.
+pub const SEED: u64 = 93_034;
+/// The most bytes the sample may have.
+pub const LONGEST: usize = 262_144;
+/// What the response buffer holds before each command.
+const FILL: u8 = 0xA5;
+
+#[derive(Default)]
+pub struct Vectors {
+    pub stdin: Vec<u8>,
+    pub stdout: String,
+    pub tally: Tally,
+}
+
+impl Vectors {
+    /// As many whole sequences of the seed as fit.
+    pub fn generate(seed: u64) -> Self {
+        let mut vectors = Self::default();
+        for number in 0.. {
+            let (stdin, lines) = one_sequence(seed, number);
+            if vectors.stdin.len() + stdin.len() > LONGEST {
+                break;
+            }
+            vectors.stdin.extend(stdin);
+            for (line, command, result) in lines {
+                vectors.stdout.push_str(&line);
+                match command {
+                    Some(command) => vectors.tally.command(&command, result),
+                    None => vectors.tally.open(result),
+                }
+            }
+        }
+        vectors
+    }
+}
+
+/// A line of output, the command (none for an opening) and the result.
+type Line = (String, Option<Vec<u8>>, u64);
+
+fn one_sequence(seed: u64, number: u64) -> (Vec<u8>, Vec<Line>) {
+    let mut sequence = Sequence::new(seed, number, Size::Small);
+    let mut state = State::default();
+    let mut stdin = Vec::new();
+    let mut lines = Vec::new();
+    while let Some(step) = sequence.next(&state) {
+        encode(&step, &mut stdin);
+        match step {
+            Step::Image(image) => state.image = image,
+            Step::Session(session) => state.session = session,
+            Step::Open(rights) => {
+                state.result = reference::open(&rights, &mut state.session);
+                let line = format!("{} {}\n", state.result, hex(&state.session));
+                lines.push((line, None, state.result));
+            }
+            Step::Command {
+                response_len,
+                command,
+            } => {
+                let line = run(&mut state, response_len, &command);
+                lines.push((line, Some(command), state.result));
+            }
+        }
+    }
+    (stdin, lines)
+}
+
+/// Runs a command and says what it did.
+fn run(state: &mut State, response_len: usize, command: &[u8]) -> String {
+    let mut response = vec![FILL; response_len];
+    state.result = reference::command(&mut state.image, &mut state.session, command, &mut response);
+    let length = usize::from((state.result >> 16) as u16);
+    format!(
+        "{} {} {} {} {}\n",
+        state.result,
+        hex(&response[..length]),
+        hex(&state.session),
+        fnv(&state.image),
+        fnv(&response)
+    )
+}
+
+/// A case: 1 image, 2 session, 3 open, 4 command; lengths are little-endian.
+fn encode(step: &Step, bytes: &mut Vec<u8>) {
+    match step {
+        Step::Image(image) => {
+            bytes.push(1);
+            bytes.extend((image.len() as u32).to_le_bytes());
+            bytes.extend(image);
+        }
+        Step::Session(session) => {
+            bytes.push(2);
+            bytes.push(session.len() as u8);
+            bytes.extend(session);
+        }
+        Step::Open(rights) => {
+            bytes.push(3);
+            bytes.extend((rights.len() as u16).to_le_bytes());
+            bytes.extend(rights);
+        }
+        Step::Command {
+            response_len,
+            command,
+        } => {
+            bytes.push(4);
+            bytes.extend((*response_len as u16).to_le_bytes());
+            bytes.extend((command.len() as u16).to_le_bytes());
+            bytes.extend(command);
+        }
+    }
+}
+
+/// FNV-1a, 32 bits.
+fn fnv(bytes: &[u8]) -> u32 {
+    bytes.iter().fold(2_166_136_261, |hash, byte| {
+        (hash ^ u32::from(*byte)).wrapping_mul(16_777_619)
+    })
+}
+
+/// Lowercase hex, `-` where there are no bytes.
+pub fn hex(bytes: &[u8]) -> String {
+    if bytes.is_empty() {
+        return "-".to_string();
+    }
+    bytes.iter().fold(String::new(), |mut text, byte| {
+        let _ = write!(text, "{byte:02x}");
+        text
+    })
+}

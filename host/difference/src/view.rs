@@ -1,0 +1,182 @@
+//! What an image and a session hold, as far as it helps to make up a meaningful command. It
+//! judges nothing: of a damaged image it sees what comes before the damage.
+
+use crate::make::{self, Rule, RULES};
+use std::ops::Range;
+
+pub enum Content {
+    Constant {
+        size: usize,
+    },
+    Records {
+        rule: &'static Rule,
+        /// Bytes of the body behind the last record.
+        free: usize,
+        /// Where the records lie in the image.
+        records: Vec<Range<usize>>,
+    },
+    Biometrics {
+        activated: bool,
+        written: usize,
+        room: usize,
+    },
+}
+
+pub struct File {
+    pub application: u8,
+    pub id: u16,
+    /// 0 where the file has none.
+    pub short_id: u8,
+    pub content: Content,
+}
+
+impl File {
+    pub fn has_records(&self) -> bool {
+        matches!(self.content, Content::Records { .. })
+    }
+
+    /// Whether this is a biometrics file that may still be written.
+    pub fn is_open(&self) -> bool {
+        matches!(
+            self.content,
+            Content::Biometrics {
+                activated: false,
+                ..
+            }
+        )
+    }
+
+    /// How many bytes READ BINARY may read.
+    pub fn size(&self) -> usize {
+        match self.content {
+            Content::Constant { size } => size,
+            Content::Biometrics { written, .. } => written,
+            Content::Records { .. } => 0,
+        }
+    }
+
+    pub fn records(&self) -> &[Range<usize>] {
+        match &self.content {
+            Content::Records { records, .. } => records,
+            _ => &[],
+        }
+    }
+}
+
+pub struct View {
+    /// The files of all applications; those of the master file are numbered 0.
+    pub files: Vec<File>,
+    /// The selected application.
+    pub application: u8,
+    /// The current file's id.
+    pub current: Option<u16>,
+}
+
+impl View {
+    pub fn new(image: &[u8], session: &[u8]) -> Self {
+        let mut files: Vec<File> = sections(image)
+            .into_iter()
+            .filter_map(|(kind, body)| file(image, kind, body))
+            .collect();
+        let entries = 1 + [1, 2, 3]
+            .iter()
+            .filter(|n| files.iter().any(|file| file.application == **n))
+            .count();
+        files.push(constant(0x2F01, 0x01, 16));
+        files.push(constant(0x2F00, 0x1E, 11 * entries));
+        let byte = |at| session.get(at).copied().unwrap_or(0);
+        Self {
+            files,
+            application: byte(20),
+            current: (byte(21) != 0).then(|| u16::from_le_bytes([byte(22), byte(23)])),
+        }
+    }
+
+    /// The files of the selected application.
+    pub fn here(&self) -> impl Iterator<Item = &File> {
+        let application = self.application;
+        self.files
+            .iter()
+            .filter(move |file| file.application == application)
+    }
+
+    pub fn current_file(&self) -> Option<&File> {
+        let id = self.current?;
+        self.here().find(|file| file.id == id)
+    }
+
+    pub fn has(&self, application: u8) -> bool {
+        self.files
+            .iter()
+            .any(|file| file.application == application)
+    }
+}
+
+/// Kind and body of each section, up to the first that does not end within the image.
+pub fn sections(image: &[u8]) -> Vec<(u16, Range<usize>)> {
+    let mut found = Vec::new();
+    let mut at = 0;
+    while let Some(&[a, b, c, d, low, high]) = image[at..].first_chunk() {
+        let length = u32::from_le_bytes([a, b, c, d]) as usize;
+        let start = at + make::SECTION_HEADER;
+        if length > image.len() - start {
+            break;
+        }
+        at = start + length;
+        found.push((u16::from_le_bytes([low, high]), start..at));
+    }
+    found
+}
+
+fn constant(id: u16, short_id: u8, size: usize) -> File {
+    File {
+        application: 0,
+        id,
+        short_id,
+        content: Content::Constant { size },
+    }
+}
+
+fn file(image: &[u8], kind: u16, body: Range<usize>) -> Option<File> {
+    if let Some(rule) = RULES.iter().find(|rule| rule.kind == kind) {
+        return Some(record_file(image, rule, body));
+    }
+    let [state, a, b, c, d] = *image[body.clone()].first_chunk()?;
+    Some(File {
+        application: 3,
+        id: kind - make::BIOMETRICS_KIND.min(kind) + make::BIOMETRICS_ID,
+        short_id: 0,
+        content: Content::Biometrics {
+            activated: state != 0,
+            written: u32::from_le_bytes([a, b, c, d]) as usize,
+            room: body.len() - 5,
+        },
+    })
+}
+
+fn record_file(image: &[u8], rule: &'static Rule, body: Range<usize>) -> File {
+    let two = |at: usize| {
+        let bytes = image[..body.end].get(at..at + 2)?;
+        Some(usize::from(u16::from_le_bytes([bytes[0], bytes[1]])))
+    };
+    let count = two(body.start).unwrap_or(0).min(rule.most);
+    let mut records = Vec::with_capacity(count);
+    let mut at = body.start + 2;
+    while records.len() < count {
+        let Some(length) = two(at).filter(|length| at + 2 + length <= body.end) else {
+            break;
+        };
+        records.push(at + 2..at + 2 + length);
+        at += 2 + length;
+    }
+    File {
+        application: rule.application,
+        id: rule.id,
+        short_id: rule.short_id,
+        content: Content::Records {
+            rule,
+            free: body.end.saturating_sub(at),
+            records,
+        },
+    }
+}

@@ -1,0 +1,26 @@
+//! The C program of `host/c/` against the header and the archive.
+
+use std::path::Path;
+use std::process::Command;
+
+#[test]
+fn the_c_example_prints_what_document_01_says() {
+    let root = Path::new(env!("CARGO_MANIFEST_DIR")).join("../..");
+    let program = Path::new(env!("CARGO_TARGET_TMPDIR")).join("example");
+    let compiled = Command::new("gcc")
+        .args(["-std=c99", "-Wall", "-Wextra", "-Werror", "-pedantic", "-I"])
+        .arg(root.join("include"))
+        .arg("-o")
+        .arg(&program)
+        .arg(root.join("host/c/example.c"))
+        .arg(root.join("target/staticlib/libmalquindo.a"))
+        .status()
+        .expect("gcc runs");
+    assert!(compiled.success());
+    let run = Command::new(&program).output().expect("the example runs");
+    assert!(run.status.success());
+    assert_eq!(
+        String::from_utf8_lossy(&run.stdout),
+        "9000\n9000\n5F44035553419000\n"
+    );
+}
