@@ -1,4 +1,4 @@
--- `decision::by_class` meets its contract.
+-- `commands::by_class` meets its contract.
 use borrow.Author.Tests.{eq-eqb, ne-eqb}
 use borrow.Author.Needs.{needs}
 use Rattle.commands.specs.Decide.{byClass}

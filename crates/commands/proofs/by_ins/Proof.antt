@@ -1,4 +1,4 @@
--- `decision::by_ins` meets its contract.
+-- `commands::by_ins` meets its contract.
 use borrow.Author.Tests.{ne-eqb}
 use borrow.Author.Needs.{needs}
 use Rattle.commands.specs.Decide.{byIns}

@@ -1,4 +1,4 @@
--- `decision::decide` meets its contract.
+-- `commands::decide` meets its contract.
 use mathlib.Core.Path.{sym, _∙_}
 use borrow.Author.Needs.{needs}
 use Rattle.commands.specs.Decide.{decide}

@@ -1,4 +1,4 @@
--- `store::biometrics::activate` meets its contract.
+-- `bodies::biometrics::activate` meets its contract.
 use native.Mathlib.Omega.{arith}
 use borrow.Author.Needs.{needs}
 use Rattle.base.proofs.Cases.{flag-no, flag-yes}

@@ -1,4 +1,4 @@
--- `store::biometrics::content` meets its contract.
+-- `bodies::biometrics::content` meets its contract.
 use mathlib.Core.Path.{ap, _∙_}
 use denote.Ref.{now}
 use borrow.Author.Needs.{needs}

@@ -1,4 +1,4 @@
--- `store::biometrics::room` meets its contract.
+-- `bodies::biometrics::room` meets its contract.
 use native.Mathlib.Omega.{arith}
 use borrow.Author.Needs.{needs}
 use Rattle.bodies.specs.Biometrics.{room}

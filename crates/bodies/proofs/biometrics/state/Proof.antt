@@ -1,4 +1,4 @@
--- `store::biometrics::state` meets its contract.
+-- `bodies::biometrics::state` meets its contract.
 use borrow.Author.Needs.{needs}
 use Rattle.bodies.specs.Biometrics.{state}
 use Rattle.bodies.proofs.biometrics.state.Statement.{statement}

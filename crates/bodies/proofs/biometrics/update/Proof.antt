@@ -1,4 +1,4 @@
--- `store::biometrics::update` meets its contract.
+-- `bodies::biometrics::update` meets its contract.
 use mathlib.Core.Path.{_≡_}
 use mathlib.Core.Bool.{true}
 use native.Mathlib.Omega.{arith}

@@ -1,5 +1,4 @@
--- `store::biometrics::well_formed` meets its contract.
-use Prim.Native.Nat.{_-_}
+-- `bodies::biometrics::well_formed` meets its contract.
 use mathlib.Core.Path.{sym, ap₂, _∙_}
 use native.Mathlib.Omega.{arith}
 use lib.Dec.{leb}

@@ -1,4 +1,4 @@
--- `store::biometrics::write` meets its contract.
+-- `bodies::biometrics::write` meets its contract.
 use Prim.Native.Nat.{_+_, _≤_}
 use native.Mathlib.Omega.{arith}
 use lib.ListN.{length}

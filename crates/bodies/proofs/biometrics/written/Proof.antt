@@ -1,4 +1,4 @@
--- `store::biometrics::written` meets its contract.
+-- `bodies::biometrics::written` meets its contract.
 use borrow.Author.Needs.{needs}
 use Rattle.bodies.specs.Biometrics.{written}
 use Rattle.bodies.proofs.biometrics.written.Statement.{statement}

@@ -1,4 +1,4 @@
--- `store::body::append` meets its contract.
+-- `bodies::body::append` meets its contract.
 use mathlib.Core.Path.{_≡_}
 use mathlib.Core.Bool.{true}
 use native.Mathlib.Omega.{arith}

@@ -1,4 +1,4 @@
--- `store::body::behind` meets its contract.
+-- `bodies::body::behind` meets its contract.
 use mathlib.Core.Path.{sym}
 use native.Mathlib.Omega.{arith}
 use borrow.Author.Needs.{needs}

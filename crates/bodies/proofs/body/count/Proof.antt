@@ -1,4 +1,4 @@
--- `store::body::count` meets its contract.
+-- `bodies::body::count` meets its contract.
 use borrow.Author.Needs.{needs}
 use Rattle.bodies.specs.Body.{count}
 use Rattle.bodies.proofs.body.count.Statement.{statement}

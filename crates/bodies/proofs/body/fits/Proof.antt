@@ -1,4 +1,4 @@
--- `store::body::fits` meets its contract.
+-- `bodies::body::fits` meets its contract.
 use mathlib.Core.Path.{ap, _∙_}
 use Prim.Native.Nat.{ℕ, _+_}
 use lib.Dec.{leb}

@@ -1,4 +1,4 @@
--- `store::body::fits_behind` meets its contract.
+-- `bodies::body::fits_behind` meets its contract.
 use Prim.Native.Nat.{_+_, _-_}
 use lib.ListN.{length}
 use denote.Ref.{now}

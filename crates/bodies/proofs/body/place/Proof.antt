@@ -1,4 +1,4 @@
--- `store::body::place` meets its contract.
+-- `bodies::body::place` meets its contract.
 use mathlib.Core.Path.{ap, _∙_}
 use native.Mathlib.Omega.{arith}
 use borrow.Author.Needs.{needs}

@@ -1,4 +1,4 @@
--- `store::body::place_of` meets its contract.
+-- `bodies::body::place_of` meets its contract.
 use borrow.Author.Needs.{needs}
 use Prim.Native.Nat.{_+_, _-_, _*_, _≤_}
 use mathlib.Core.Path.{_≡_, sym, ap, _∙_}

@@ -1,4 +1,4 @@
--- `store::body::record` meets its contract.
+-- `bodies::body::record` meets its contract.
 use mathlib.Core.Path.{sym, _∙_}
 use native.Mathlib.Omega.{arith}
 use denote.Ref.{now}

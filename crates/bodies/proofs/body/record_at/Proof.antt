@@ -1,4 +1,4 @@
--- `store::body::record_at` meets its contract.
+-- `bodies::body::record_at` meets its contract.
 use mathlib.Core.Path.{sym, ap, _∙_}
 use denote.Ref.{now}
 use Prim.Native.Nat.{_+_}

@@ -1,4 +1,4 @@
--- `store::body::record_ok` meets its contract.
+-- `bodies::body::record_ok` meets its contract.
 use Prim.Native.Nat.{_+_, _-_}
 use lib.ListN.{length}
 use denote.Ref.{now}

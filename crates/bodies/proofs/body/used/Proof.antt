@@ -1,4 +1,4 @@
--- `store::body::used` meets its contract.
+-- `bodies::body::used` meets its contract.
 use mathlib.Core.Path.{ap, _∙_}
 use native.Mathlib.Omega.{arith}
 use borrow.Author.Needs.{needs}

@@ -1,4 +1,4 @@
--- `store::body::well_formed` meets its contract.
+-- `bodies::body::well_formed` meets its contract.
 use borrow.Author.Needs.{needs}
 use Prim.Native.Nat.{ℕ, _-_, _≤_}
 use mathlib.Core.Path.{_≡_, sym, ap, _∙_}

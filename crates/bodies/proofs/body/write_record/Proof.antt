@@ -1,4 +1,4 @@
--- `store::body::write_record` meets its contract.
+-- `bodies::body::write_record` meets its contract.
 use mathlib.Core.Path.{_∙_}
 use native.Mathlib.Omega.{arith}
 use lib.ListN.{length, length-set}

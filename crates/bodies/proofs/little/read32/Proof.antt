@@ -1,4 +1,4 @@
--- `store::little::read32` meets its contract.
+-- `bodies::little::read32` meets its contract.
 use mathlib.Core.Path.{sym}
 use native.Mathlib.Omega.{arith}
 use borrow.Author.Needs.{needs}

@@ -1,4 +1,4 @@
--- `store::rules::has_key` meets its contract.
+-- `bodies::rules::has_key` meets its contract.
 use borrow.Author.Tests.{eq-eqb, ne-eqb}
 use borrow.Author.Needs.{needs}
 use Rattle.bodies.proofs.rules.has_key.Statement.{statement}

@@ -1,4 +1,4 @@
--- `store::rules::kind_ok` meets its contract.
+-- `bodies::rules::kind_ok` meets its contract.
 use mathlib.Core.Path.{sym, _∙_}
 use native.Mathlib.Omega.{arith}
 use borrow.Author.Needs.{needs}

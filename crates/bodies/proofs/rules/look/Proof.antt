@@ -1,4 +1,4 @@
--- `store::rules::look` meets its contract.
+-- `bodies::rules::look` meets its contract.
 use Prim.Native.Nat.{_-_}
 use mathlib.Core.Path.{_≡_, sym, _∙_}
 use native.Mathlib.Omega.{arith}

@@ -1,4 +1,4 @@
--- `store::rules::row` meets its contract.
+-- `bodies::rules::row` meets its contract.
 use mathlib.Core.Path.{sym, ap}
 use lib.Seq.{drop-cons}
 use borrow.Author.Needs.{needs}

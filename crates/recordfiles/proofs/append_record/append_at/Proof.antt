@@ -1,4 +1,4 @@
--- `decision::append_record::append_at` meets its contract.
+-- `recordfiles::append_record::append_at` meets its contract.
 use borrow.Author.Needs.{needs}
 use Rattle.recordfiles.proofs.append_record.append_at.Statement.{statement}
 use Rattle.recordfiles.proofs.append_record.append_at.Tie as tie

@@ -1,4 +1,4 @@
--- `decision::append_record::append_record` meets its contract.
+-- `recordfiles::append_record::append_record` meets its contract.
 use mathlib.Core.Path.{sym, _∙_}
 use mathlib.Core.Bool.{and-false}
 use borrow.Author.Tests.{eq-eqb, ne-eqb}

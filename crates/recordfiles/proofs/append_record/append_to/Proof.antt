@@ -1,4 +1,4 @@
--- `decision::append_record::append_to` meets its contract.
+-- `recordfiles::append_record::append_to` meets its contract.
 use borrow.Author.Tests.{lt-leb, le-leb, lt-ltb, le-ltb}
 use borrow.Author.Needs.{needs}
 use Rattle.base.proofs.Cases.{flag-no, flag-yes}

@@ -1,4 +1,4 @@
--- `decision::read_record::all_of_record` meets its contract.
+-- `recordfiles::read_record::all_of_record` meets its contract.
 use mathlib.Core.Path.{sym}
 use lib.Dec.{eqb}
 use mathlib.Core.Bool.{and-true, and-false}

@@ -1,4 +1,4 @@
--- `decision::read_record::four_or_five` meets its contract.
+-- `recordfiles::read_record::four_or_five` meets its contract.
 use borrow.Author.Tests.{eq-eqb, ne-eqb}
 use Rattle.recordfiles.specs.ReadRecord.{fourOrFive}
 use Rattle.recordfiles.proofs.read_record.four_or_five.Statement.{statement}

@@ -1,4 +1,4 @@
--- `decision::read_record::read_from` meets its contract.
+-- `recordfiles::read_record::read_from` meets its contract.
 use borrow.Author.Tests.{lt-leb, le-leb}
 use borrow.Author.Needs.{needs}
 use Rattle.session.specs.Order.{inOrder}

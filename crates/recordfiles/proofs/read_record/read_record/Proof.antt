@@ -1,4 +1,4 @@
--- `decision::read_record::read_record` meets its contract.
+-- `recordfiles::read_record::read_record` meets its contract.
 use mathlib.Core.Path.{sym, _∙_}
 use borrow.Author.Needs.{needs}
 use Rattle.base.proofs.Cases.{flag-no, flag-yes}

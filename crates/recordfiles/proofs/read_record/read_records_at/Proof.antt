@@ -1,4 +1,4 @@
--- `decision::read_record::read_records_at` meets its contract.
+-- `recordfiles::read_record::read_records_at` meets its contract.
 use borrow.Author.Needs.{needs}
 use Rattle.recordfiles.proofs.read_record.read_records_at.Statement.{statement}
 use Rattle.recordfiles.proofs.read_record.read_records_at.Tie as tie

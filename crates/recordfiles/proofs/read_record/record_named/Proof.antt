@@ -1,4 +1,4 @@
--- `decision::read_record::record_named` meets its contract.
+-- `recordfiles::read_record::record_named` meets its contract.
 use borrow.Author.Tests.{eq-eqb, ne-eqb}
 use borrow.Author.Needs.{needs}
 use Rattle.recordfiles.specs.ReadRecord.{recordNamed}

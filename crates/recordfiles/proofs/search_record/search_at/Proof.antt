@@ -1,4 +1,4 @@
--- `decision::search_record::search_at` meets its contract.
+-- `recordfiles::search_record::search_at` meets its contract.
 use borrow.Author.Needs.{needs}
 use Rattle.recordfiles.proofs.search_record.search_at.Statement.{statement}
 use Rattle.recordfiles.proofs.search_record.search_at.Tie as tie

@@ -1,4 +1,4 @@
--- `decision::search_record::search_data` meets its contract.
+-- `recordfiles::search_record::search_data` meets its contract.
 use mathlib.Core.Path.{sym, _∙_}
 use borrow.Author.Needs.{needs}
 use Rattle.recordfiles.proofs.search_record.search_data.Statement.{statement}

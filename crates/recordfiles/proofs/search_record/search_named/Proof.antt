@@ -1,4 +1,4 @@
--- `decision::search_record::search_named` meets its contract.
+-- `recordfiles::search_record::search_named` meets its contract.
 use borrow.Author.Tests.{eq-eqb, ne-eqb}
 use borrow.Author.Needs.{needs}
 use Rattle.recordfiles.specs.SearchRecord.{searchNamed}

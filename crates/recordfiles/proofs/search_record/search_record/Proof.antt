@@ -1,4 +1,4 @@
--- `decision::search_record::search_record` meets its contract.
+-- `recordfiles::search_record::search_record` meets its contract.
 use mathlib.Core.Path.{sym, _∙_}
 use mathlib.Core.Bool.{and-false}
 use borrow.Author.Tests.{eq-eqb, ne-eqb, lt-leb, le-leb}

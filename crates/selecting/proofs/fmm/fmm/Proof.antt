@@ -1,4 +1,4 @@
--- `decision::fmm::fmm` meets its contract.
+-- `selecting::fmm::fmm` meets its contract.
 use mathlib.Core.Path.{sym, _∙_}
 use borrow.Author.Tests.{eq-eqb, ne-eqb, lt-leb, le-leb}
 use borrow.Author.Needs.{needs}

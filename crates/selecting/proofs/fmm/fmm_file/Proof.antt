@@ -1,4 +1,4 @@
--- `decision::fmm::fmm_file` meets its contract.
+-- `selecting::fmm::fmm_file` meets its contract.
 use borrow.Author.Tests.{eq-eqb, ne-eqb}
 use borrow.Author.Needs.{needs}
 use Rattle.session.specs.Order.{inOrder}

@@ -1,4 +1,4 @@
--- `decision::fmm::fmm_named` meets its contract.
+-- `selecting::fmm::fmm_named` meets its contract.
 use mathlib.Core.Path.{sym, _∙_}
 use borrow.Author.Needs.{needs}
 use Rattle.selecting.specs.Fmm.{fmmNamed}

@@ -1,4 +1,4 @@
--- `decision::fmm::lc_fits` meets its contract.
+-- `selecting::fmm::lc_fits` meets its contract.
 use borrow.Author.Tests.{eq-eqb, ne-eqb}
 use Rattle.selecting.specs.Fmm.{lcFits}
 use Rattle.selecting.proofs.fmm.lc_fits.Statement.{statement}

@@ -1,4 +1,4 @@
--- `decision::fmm::report_of` meets its contract.
+-- `selecting::fmm::report_of` meets its contract.
 use mathlib.Core.Path.{sym, _∙_}
 use borrow.Author.Tests.{eq-eqb, ne-eqb}
 use borrow.Author.Needs.{needs}

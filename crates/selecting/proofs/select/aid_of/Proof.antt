@@ -1,4 +1,4 @@
--- `decision::select::aid_of` meets its contract.
+-- `selecting::select::aid_of` meets its contract.
 use mathlib.Core.Path.{sym, _∙_}
 use mathlib.Core.Bool.{and-false}
 use borrow.Author.Tests.{eq-eqb, ne-eqb}

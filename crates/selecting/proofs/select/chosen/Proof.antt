@@ -1,4 +1,4 @@
--- `decision::select::chosen` meets its contract.
+-- `selecting::select::chosen` meets its contract.
 use mathlib.Core.Path.{ap, _∙_}
 use borrow.Author.Tests.{eq-eqb, ne-eqb}
 use borrow.Author.Needs.{needs}

@@ -1,4 +1,4 @@
--- `decision::select::length_fits` meets its contract.
+-- `selecting::select::length_fits` meets its contract.
 use borrow.Author.Tests.{eq-eqb, ne-eqb}
 use Rattle.selecting.specs.Select.{lengthFits}
 use Rattle.selecting.proofs.select.length_fits.Statement.{statement}

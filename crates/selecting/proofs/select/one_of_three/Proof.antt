@@ -1,4 +1,4 @@
--- `decision::select::one_of_three` meets its contract.
+-- `selecting::select::one_of_three` meets its contract.
 use borrow.Author.Tests.{eq-eqb, ne-eqb}
 use Rattle.selecting.specs.Select.{oneOfThree}
 use Rattle.selecting.proofs.select.one_of_three.Statement.{statement}

@@ -1,4 +1,4 @@
--- `decision::select::select` meets its contract.
+-- `selecting::select::select` meets its contract.
 use borrow.Author.Tests.{eq-eqb, ne-eqb}
 use borrow.Author.Needs.{needs}
 use Rattle.base.proofs.Cases.{flag-no, flag-yes}

@@ -1,4 +1,4 @@
--- `decision::select::select_aid` meets its contract.
+-- `selecting::select::select_aid` meets its contract.
 use borrow.Author.Needs.{needs}
 use Rattle.base.proofs.Cases.{flag-no, flag-yes}
 use Rattle.session.specs.Order.{inOrder}

@@ -1,4 +1,4 @@
--- `decision::select::select_file` meets its contract.
+-- `selecting::select::select_file` meets its contract.
 use mathlib.Core.Path.{sym, _∙_}
 use borrow.Author.Needs.{needs}
 use Rattle.selecting.specs.Select.{selectFile}

@@ -1,4 +1,4 @@
--- `decision::select::select_master` meets its contract.
+-- `selecting::select::select_master` meets its contract.
 use borrow.Author.Tests.{eq-eqb, ne-eqb}
 use Rattle.selecting.specs.Select.{selectMaster}
 use Rattle.selecting.proofs.select.select_master.Statement.{statement}

@@ -1,4 +1,4 @@
--- `decision::activate::activate` meets its contract.
+-- `transparent::activate::activate` meets its contract.
 use mathlib.Core.Path.{sym, _∙_}
 use mathlib.Core.Bool.{and-false}
 use borrow.Author.Tests.{eq-eqb, ne-eqb}

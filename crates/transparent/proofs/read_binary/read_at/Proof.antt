@@ -1,4 +1,4 @@
--- `decision::read_binary::read_at` meets its contract.
+-- `transparent::read_binary::read_at` meets its contract.
 use borrow.Author.Tests.{lt-ltb, le-ltb}
 use borrow.Author.Needs.{needs}
 use Rattle.session.specs.Order.{inOrder}

@@ -1,4 +1,4 @@
--- `decision::read_binary::read_binary` meets its contract.
+-- `transparent::read_binary::read_binary` meets its contract.
 use mathlib.Core.Path.{sym, _∙_}
 use borrow.Author.Tests.{lt-ltb, le-ltb}
 use borrow.Author.Needs.{needs}

@@ -1,4 +1,4 @@
--- `decision::read_binary::read_named` meets its contract.
+-- `transparent::read_binary::read_named` meets its contract.
 use borrow.Author.Tests.{lt-ltb, le-ltb}
 use Rattle.transparent.specs.ReadBinary.{readNamed}
 use Rattle.transparent.proofs.read_binary.read_named.Statement.{statement}

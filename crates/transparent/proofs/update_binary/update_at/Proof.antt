@@ -1,4 +1,4 @@
--- `decision::update_binary::update_at` meets its contract.
+-- `transparent::update_binary::update_at` meets its contract.
 use borrow.Author.Tests.{lt-leb, le-leb}
 use borrow.Author.Needs.{needs}
 use Rattle.base.proofs.Cases.{flag-no, flag-yes}

@@ -1,4 +1,4 @@
--- `decision::update_binary::update_binary` meets its contract.
+-- `transparent::update_binary::update_binary` meets its contract.
 use mathlib.Core.Path.{sym, _∙_}
 use borrow.Author.Needs.{needs}
 use Rattle.base.proofs.Cases.{flag-no, flag-yes}

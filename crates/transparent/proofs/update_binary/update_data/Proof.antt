@@ -1,4 +1,4 @@
--- `decision::update_binary::update_data` meets its contract.
+-- `transparent::update_binary::update_data` meets its contract.
 use mathlib.Core.Path.{sym, _∙_}
 use borrow.Author.Needs.{needs}
 use Rattle.transparent.proofs.update_binary.update_data.Statement.{statement}

@@ -1,4 +1,4 @@
--- `decision::update_binary::update_named` meets its contract.
+-- `transparent::update_binary::update_named` meets its contract.
 use borrow.Author.Tests.{eq-eqb, ne-eqb}
 use Rattle.transparent.specs.UpdateBinary.{updateNamed}
 use Rattle.transparent.proofs.update_binary.update_named.Statement.{statement}

@@ -1,4 +1,4 @@
--- `decision::update_binary::within` meets its contract.
+-- `transparent::update_binary::within` meets its contract.
 use Prim.Native.Nat.{_+_, _-_}
 use mathlib.Core.Path.{sym}
 use native.Mathlib.Omega.{arith}
