@@ -6,7 +6,7 @@ use Rattle.session.specs.declared.Session.{Session}
 use Rattle.machine.specs.Outcome.{Outcome, outcome}
 use Rattle.machine.specs.Step.{step}
 use Rattle.machine.specs.declared.Answer.{Answer}
-use Rattle.malquindo.specs.Layout.{sessionOf}
+use Rattle.layout.specs.Layout.{sessionOf}
 use Rattle.malquindo.specs.Face.{resultOf, sessionAfter, calledAs, calledBy, called}
 
 pub answered : (img ses cmd buf : List ℕ) {s : Session} {a : Answer} {img′ ses′ buf′ : List ℕ} {r : ℕ} → s ≡ sessionOf ses → outcome a img′ buf′ ≡ step img s cmd buf

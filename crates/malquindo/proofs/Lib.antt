@@ -1,4 +1,2 @@
--- Laws of sessions as bytes.
-pub mod Storing
+-- From the machine's answer to what a caller gets.
 pub mod Calling
-pub mod Laws

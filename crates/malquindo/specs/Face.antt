@@ -11,7 +11,7 @@ use Rattle.session.specs.declared.Refusal.{Refusal}
 use Rattle.session.specs.declared.Refusal.the-variants.{Taken, ShortBuffer, BadImage, BadRights, BadSession}
 use Rattle.machine.specs.Outcome.{Outcome}
 use Rattle.machine.specs.Step.{opening, step}
-use Rattle.malquindo.specs.Layout.{sessionBytes, sessionOf}
+use Rattle.layout.specs.Layout.{sessionBytes, sessionOf}
 
 -- "refusal · 2^32 + length · 2^16 + status". (Length and status are below 65,536.)
 unfoldable pub resultOf : Refusal → ℕ → ℕ → ℕ

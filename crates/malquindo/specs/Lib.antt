@@ -1,3 +1,2 @@
--- The machine for C: a session as bytes, and what each function answers.
-pub mod Layout
+-- The machine for C: what each function answers.
 pub mod Face

@@ -1,7 +1,5 @@
 // The machine for C and for what links like C. include/malquindo.h declares these functions. Every function takes any bytes; what it is
 // lent must not overlap.
-pub mod layout;
-
 use session::Refusal;
 use session::Session;
 ghost use mathlib.Core.Path.{_≡_};

@@ -1,11 +1,11 @@
--- `malquindo::layout::unused_zero` meets its contract.
+-- `layout::unused_zero` meets its contract.
 use mathlib.Core.Bool.{and-true}
-use Rattle.malquindo.specs.Layout.{unusedZero}
+use Rattle.layout.specs.Layout.{unusedZero}
 use Rattle.base.specs.Choice.{every}
 use borrow.Author.Tests.{eq-eqb, ne-eqb}
 use borrow.Author.Needs.{needs}
-use Rattle.malquindo.proofs.layout.unused_zero.Statement.{statement}
-use Rattle.malquindo.proofs.layout.unused_zero.Tie as tie
+use Rattle.layout.proofs.unused_zero.Statement.{statement}
+use Rattle.layout.proofs.unused_zero.Tie as tie
 
 byte-requires : tie.Need-byte-requires
 byte-requires c κs = search needs

@@ -1,11 +1,11 @@
--- `malquindo::layout::is_session` meets its contract.
+-- `layout::is_session` meets its contract.
 use mathlib.Core.Bool.{and-true}
-use Rattle.malquindo.specs.Layout.{isSession}
+use Rattle.layout.specs.Layout.{isSession}
 use Rattle.base.specs.Choice.{every}
 use borrow.Author.Tests.{le-leb, lt-leb}
 use borrow.Author.Needs.{needs}
-use Rattle.malquindo.proofs.layout.is_session.Statement.{statement}
-use Rattle.malquindo.proofs.layout.is_session.Tie as tie
+use Rattle.layout.proofs.is_session.Statement.{statement}
+use Rattle.layout.proofs.is_session.Tie as tie
 
 returns : tie.Need-returns
 unfolding isSession every

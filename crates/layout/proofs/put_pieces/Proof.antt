@@ -1,9 +1,9 @@
--- `malquindo::layout::put_pieces` meets its contract.
-use Rattle.malquindo.proofs.Storing.{stored-not, stored}
+-- `layout::put_pieces` meets its contract.
+use Rattle.layout.proofs.Storing.{stored-not, stored}
 use native.Mathlib.Omega.{arith}
 use borrow.Author.Needs.{needs}
-use Rattle.malquindo.proofs.layout.put_pieces.Statement.{statement}
-use Rattle.malquindo.proofs.layout.put_pieces.Tie as tie
+use Rattle.layout.proofs.put_pieces.Statement.{statement}
+use Rattle.layout.proofs.put_pieces.Tie as tie
 
 returns : tie.Need-returns
 returns c = let x = c .before .before .args in let g = c .before .before .good in stored-not _ (x .t2) (x .t3) (x .t4) (omega (arith, g)) (omega (arith, g)) (omega (arith, g)) (c .if1 .taken)

@@ -1,8 +1,8 @@
--- `malquindo::layout::put_session` meets its contract.
-use Rattle.malquindo.specs.Layout.{sessionBytes}
+-- `layout::put_session` meets its contract.
+use Rattle.layout.specs.Layout.{sessionBytes}
 use borrow.Author.Needs.{needs}
-use Rattle.malquindo.proofs.layout.put_session.Statement.{statement}
-use Rattle.malquindo.proofs.layout.put_session.Tie as tie
+use Rattle.layout.proofs.put_session.Statement.{statement}
+use Rattle.layout.proofs.put_session.Tie as tie
 
 place-bytes-requires : tie.Need-place-bytes-requires
 place-bytes-requires c κs = search needs

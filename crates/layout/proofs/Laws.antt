@@ -22,7 +22,7 @@ use Rattle.session.specs.declared.Place.the-variants.{Nothing, File as OnFile, 
 use Rattle.session.specs.declared.Session.{Session}
 use Rattle.session.specs.declared.Refusal.{Refusal}
 use Rattle.session.specs.declared.Refusal.the-variants.{Taken, ShortBuffer, BadImage, BadSession}
-use Rattle.malquindo.specs.Layout.{placeBytes, sessionBytes, placeIn, unusedZero, isSession, sessionOf}
+use Rattle.layout.specs.Layout.{placeBytes, sessionBytes, placeIn, unusedZero, isSession, sessionOf}
 
 -- ---- a session that 25 bytes can hold
 

@@ -1,8 +1,8 @@
--- `malquindo::layout::place_bytes` meets its contract.
-use Rattle.malquindo.specs.Layout.{placeBytes}
+-- `layout::place_bytes` meets its contract.
+use Rattle.layout.specs.Layout.{placeBytes}
 use borrow.Author.Needs.{needs}
-use Rattle.malquindo.proofs.layout.place_bytes.Statement.{statement}
-use Rattle.malquindo.proofs.layout.place_bytes.Tie as tie
+use Rattle.layout.proofs.place_bytes.Statement.{statement}
+use Rattle.layout.proofs.place_bytes.Tie as tie
 
 cast-a : tie.Need-cast-a
 cast-a c = search needs

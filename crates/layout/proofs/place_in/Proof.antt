@@ -1,9 +1,9 @@
--- `malquindo::layout::place_in` meets its contract.
-use Rattle.malquindo.specs.Layout.{placeIn}
+-- `layout::place_in` meets its contract.
+use Rattle.layout.specs.Layout.{placeIn}
 use borrow.Author.Tests.{eq-eqb, ne-eqb}
 use borrow.Author.Needs.{needs}
-use Rattle.malquindo.proofs.layout.place_in.Statement.{statement}
-use Rattle.malquindo.proofs.layout.place_in.Tie as tie
+use Rattle.layout.proofs.place_in.Statement.{statement}
+use Rattle.layout.proofs.place_in.Tie as tie
 
 byte-requires : tie.Need-byte-requires
 byte-requires c κs = search needs

@@ -5,7 +5,7 @@ use session::Session;
 ghost use mathlib.Core.Path.{_≡_};
 ghost use mathlib.Core.List.{_++_};
 ghost use Rattle.base.specs.Bytes.{fits, put};
-ghost use Rattle.malquindo.specs.Layout.{placeBytes, sessionBytes, placeIn, unusedZero, isSession, sessionOf};
+ghost use Rattle.layout.specs.Layout.{placeBytes, sessionBytes, placeIn, unusedZero, isSession, sessionOf};
 
 // How many bytes a session has.
 pub const LENGTH: usize = 25;

@@ -1,9 +1,9 @@
--- `malquindo::layout::session_of` meets its contract.
-use Rattle.malquindo.specs.Layout.{sessionOf}
+-- `layout::session_of` meets its contract.
+use Rattle.layout.specs.Layout.{sessionOf}
 use mathlib.Core.Path.{sym, _∙_}
 use borrow.Author.Needs.{needs}
-use Rattle.malquindo.proofs.layout.session_of.Statement.{statement}
-use Rattle.malquindo.proofs.layout.session_of.Tie as tie
+use Rattle.layout.proofs.session_of.Statement.{statement}
+use Rattle.layout.proofs.session_of.Tie as tie
 
 held-requires : tie.Need-held-requires
 held-requires c κs = search needs

@@ -1,0 +1,3 @@
+-- Laws of sessions as bytes.
+pub mod Storing
+pub mod Laws

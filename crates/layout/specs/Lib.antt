@@ -1,0 +1,2 @@
+-- A session as bytes.
+pub mod Layout
