@@ -2,7 +2,7 @@
 use crate::little::read32;
 ghost use mathlib.Core.Path.{_≡_};
 ghost use mathlib.Core.Bool.{true};
-ghost use Prim.Native.Nat.{_+_, _≤_, _<_, max};
+ghost use Prim.Native.Nat.{_+_, _<_, max};
 ghost use lib.ListN.{length};
 ghost use Rattle.bodies.specs.Biometrics.{state, written, room, content, bioOk, takes, updated, update, activate};
 

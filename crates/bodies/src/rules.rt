@@ -24,65 +24,73 @@ pub enum Ruled {
     Nothing,
 }
 
-const RULES: [Rule; 6] = [
-    Rule {
-        kind: 0x0101,
-        application: TRAVEL,
-        id: 0x0101,
-        short: 0x01,
-        longest: 391,
-        most: 254,
-    },
-    Rule {
-        kind: 0x0102,
-        application: TRAVEL,
-        id: 0x0102,
-        short: 0x02,
-        longest: 391,
-        most: 254,
-    },
-    Rule {
-        kind: 0x011A,
-        application: TRAVEL,
-        id: 0x011A,
-        short: 0x1A,
-        longest: 929,
-        most: 254,
-    },
-    Rule {
-        kind: 0x0203,
-        application: VISA,
-        id: 0x0103,
-        short: 0x03,
-        longest: 512,
-        most: 254,
-    },
-    Rule {
-        kind: 0x021A,
-        application: VISA,
-        id: 0x011A,
-        short: 0x1A,
-        longest: 929,
-        most: 254,
-    },
-    Rule {
-        kind: 0x031A,
-        application: BIOMETRICS,
-        id: 0x011A,
-        short: 0x1A,
-        longest: 929,
-        most: 64,
-    },
-];
+const ENTRY_RECORDS: Rule = Rule {
+    kind: 0x0101,
+    application: TRAVEL,
+    id: 0x0101,
+    short: 0x01,
+    longest: 391,
+    most: 254,
+};
 
-// Row i of the table, counted from 0.
+const EXIT_RECORDS: Rule = Rule {
+    kind: 0x0102,
+    application: TRAVEL,
+    id: 0x0102,
+    short: 0x02,
+    longest: 391,
+    most: 254,
+};
+
+const TRAVEL_CERTIFICATES: Rule = Rule {
+    kind: 0x011A,
+    application: TRAVEL,
+    id: 0x011A,
+    short: 0x1A,
+    longest: 929,
+    most: 254,
+};
+
+const VISA_RECORDS: Rule = Rule {
+    kind: 0x0203,
+    application: VISA,
+    id: 0x0103,
+    short: 0x03,
+    longest: 512,
+    most: 254,
+};
+
+const VISA_CERTIFICATES: Rule = Rule {
+    kind: 0x021A,
+    application: VISA,
+    id: 0x011A,
+    short: 0x1A,
+    longest: 929,
+    most: 254,
+};
+
+const BIOMETRICS_CERTIFICATES: Rule = Rule {
+    kind: 0x031A,
+    application: BIOMETRICS,
+    id: 0x011A,
+    short: 0x1A,
+    longest: 929,
+    most: 64,
+};
+
+// Row i of the table, counted from 0. (A constant array would be laid out anew for each row that is asked for.)
 pub fn row(i: usize) -> Ruled
     ensures { λ r. ⌜ r ≡ rowOf i ⌝ }
 {
-    if i < 6 {
-        return Ruled::Is(RULES[i]);
+    match i {
+        0 => Ruled::Is(ENTRY_RECORDS),
+        1 => Ruled::Is(EXIT_RECORDS),
+        2 => Ruled::Is(TRAVEL_CERTIFICATES),
+        3 => Ruled::Is(VISA_RECORDS),
+        4 => Ruled::Is(VISA_CERTIFICATES),
+        5 => Ruled::Is(BIOMETRICS_CERTIFICATES),
+        _ => Ruled::Nothing,
     }
-    Ruled::Nothing
 }
 
 // What a rule is looked up by: a kind; an application with an id, or with a short id.

@@ -1,7 +1,6 @@
 -- Document 01's "A card to try": m1 to m10 in order, one table, computed from the definitions.
 use Prim.Native.Nat.{ℕ, _+_, _/_, _%_}
 use mathlib.Core.Path.{_≡_, refl}
-use mathlib.Core.Bool.{true, false}
 use mathlib.Core.List.{List, [], _∷_, _++_}
 use lib.ListN.{length, take, replicate, set as put-at}
 use Rattle.session.specs.Session.{placed, entered}

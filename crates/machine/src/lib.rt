@@ -9,14 +9,15 @@ use session::Refusal;
 use session::Session;
 use store::image;
 use templates::Search;
+use templates::Writes;
 ghost use mathlib.Core.Path.{_≡_};
 ghost use mathlib.Core.Bool.{true};
-ghost use mathlib.Core.List.{[], _++_};
+ghost use mathlib.Core.List.{[]};
 ghost use Prim.Native.Nat.{_+_, _≤_};
-ghost use lib.ListN.{length, getD};
+ghost use lib.ListN.{length};
 ghost use Rattle.base.specs.Bytes.{put};
 ghost use Rattle.store.specs.Image.{wellFormed};
-ghost use Rattle.decision.specs.declared.Decision.the-variants.{Seek, Read, Report, Bytes as ReadOf};
+ghost use Rattle.decision.specs.declared.Decision.the-variants.{Seek, Read, Report, Bytes as ReadOf, Write as WriteTo, Activate as ActivateOf, Append as AppendTo};
 ghost use Rattle.files.specs.Files.{content};
 ghost use Rattle.session.specs.Session.{placed as placedAt, entered as enteredAt};
 ghost use Rattle.session.specs.declared.Refusal.the-variants.{Taken};
@@ -155,7 +156,45 @@ fn bytes(image: &[u8], s: Session, f: File, o: usize, n: usize, response: &mut [
     finish(session::set_file(s, f), 0x9000, n, response)
 }
 
-// Carries out what is decided: the only function here that writes the image.
+// UPDATE BINARY.
+fn write(
+    image: &mut [u8],
+    s: Session,
+    f: File,
+    w: Writes,
+    data: &[u8],
+    response: &mut [u8],
+) -> Answer
+    ensures { λ x. ⌜ outcome x (now (image .exit)) (now (response .exit)) ≡ done (WriteTo f w) (now (image .entry)) s (now («data» .entry)) (now (response .entry)) ⌝ }
+{
+    let p = w.bytes;
+    image::update(
+        image,
+        files::kind_of(f),
+        w.offset,
+        base::part(data, p.at, p.len),
+    );
+    finish(session::set_file(s, f), 0x9000, 0, response)
+}
+
+// ACTIVATE.
+fn activate(image: &mut [u8], s: Session, f: File, response: &mut [u8]) -> Answer
+    ensures { λ x. ⌜ outcome x (now (image .exit)) (now (response .exit)) ≡ done (ActivateOf f) (now (image .entry)) s [] (now (response .entry)) ⌝ }
+{
+    image::activate(image, files::kind_of(f));
+    finish(s, 0x9000, 0, response)
+}
+
+// APPEND RECORD.
+fn append(image: &mut [u8], s: Session, r: Rule, data: &[u8], response: &mut [u8]) -> Answer
+    ensures { λ x. ⌜ outcome x (now (image .exit)) (now (response .exit)) ≡ done (AppendTo r) (now (image .entry)) s (now («data» .entry)) (now (response .entry)) ⌝ }
+{
+    let n = body::count(image::body(image, r.kind));
+    image::append(image, r.kind, data);
+    finish(placed(s, Place::Record(r.id, n + 1)), 0x9000, 0, response)
+}
+
+// Carries out what is decided.
 fn apply(image: &mut [u8], s: Session, d: Decision, data: &[u8], response: &mut [u8]) -> Answer
     requires { ⌜ (wellFormed (now image) ≡ true) × (2050 ≤ length (now response)) × Allowed (now image) s (now «data») d ⌝ }
     ensures { λ a. ⌜ outcome a (now (image .exit)) (now (response .exit)) ≡ done d (now (image .entry)) s (now («data» .entry)) (now (response .entry)) ⌝ }
@@ -165,25 +204,9 @@ fn apply(image: &mut [u8], s: Session, d: Decision, data: &[u8], response: &mut 
         Decision::Enter(a) => finish(entered(s, a), 0x9000, 0, response),
         Decision::Choose(f) => finish(placed(s, Place::File(files::id_of(f))), 0x9000, 0, response),
         Decision::Bytes(f, o, n) => bytes(image, s, f, o, n, response),
-        Decision::Write(f, w) => {
-            let p = w.bytes;
-            image::update(
-                image,
-                files::kind_of(f),
-                w.offset,
-                base::part(data, p.at, p.len),
-            );
-            finish(session::set_file(s, f), 0x9000, 0, response)
-        }
-        Decision::Activate(f) => {
-            image::activate(image, files::kind_of(f));
-            finish(s, 0x9000, 0, response)
-        }
-        Decision::Append(r) => {
-            let n = body::count(image::body(image, r.kind));
-            image::append(image, r.kind, data);
-            finish(placed(s, Place::Record(r.id, n + 1)), 0x9000, 0, response)
-        }
+        Decision::Write(f, w) => write(image, s, f, w, data, response),
+        Decision::Activate(f) => activate(image, s, f, response),
+        Decision::Append(r) => append(image, s, r, data, response),
         Decision::Read(r, a, b) => read(image, s, r, a, b, response),
         Decision::Seek(r, q, ne) => seek(image, s, r, q, ne, data, response),
         Decision::Report(f, p2) => report(image, s, f, p2, response),

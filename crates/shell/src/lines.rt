@@ -100,23 +100,25 @@ fn answer(r: u64, response: &[u8]) {
     say::end();
 }
 
-// A command.
+// Sends a command to the card, and says what it was and what came back.
+fn send(command: &[u8], image: &mut [u8], session: &mut [u8]) {
+    say::word(b">");
+    hex::spell(command);
+    say::end();
+    let mut response = io::buffer();
+    let r = malquindo::malquindo_command(image, session, command, &mut response);
+    answer(r, &response);
+}
+
+// A command's line.
 fn command(text: &[u8], image: &mut [u8], session: &mut [u8]) {
     let mut bytes = io::buffer();
-    let mut response = io::buffer();
     let r = hex::decode(text, &mut bytes);
     if !r.good {
         unreadable(text);
         return;
     }
-    let c = base::part(&bytes, 0, r.n);
-    say::word(b">");
-    hex::spell(c);
-    say::end();
-    answer(
-        malquindo::malquindo_command(image, session, c, &mut response),
-        &response,
-    );
+    send(base::part(&bytes, 0, r.n), image, session);
 }
 
 // One line, without its comment.

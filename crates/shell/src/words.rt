@@ -1,11 +1,8 @@
 // Status words and refusals in words.
 
-// What a status word means.
-pub(crate) fn status(w: u64) {
+// What a status word from 6981 to 6A86 means: the file or its content does not allow the command.
+fn not_allowed(w: u64) {
     match w {
-        0x9000 => say::word(b"Normal processing"),
-        0x6282 => say::word(b"No record matches"),
-        0x6700 => say::word(b"Wrong length"),
         0x6981 => say::word(b"Command incompatible with file structure"),
         0x6982 => say::word(b"Security status not satisfied"),
         0x6986 => say::word(b"Command not allowed, no current file"),
@@ -14,10 +11,20 @@ pub(crate) fn status(w: u64) {
         0x6A83 => say::word(b"Record not found"),
         0x6A84 => say::word(b"Not enough memory space in the file"),
         0x6A86 => say::word(b"Incorrect parameters P1-P2"),
+        _ => say::word(b"Unknown status"),
+    }
+}
+
+// What a status word means.
+pub(crate) fn status(w: u64) {
+    match w {
+        0x9000 => say::word(b"Normal processing"),
+        0x6282 => say::word(b"No record matches"),
+        0x6700 => say::word(b"Wrong length"),
         0x6B00 => say::word(b"Wrong parameters, offset outside the file"),
         0x6D00 => say::word(b"Instruction not supported"),
         0x6E00 => say::word(b"Class not supported"),
-        _ => say::word(b"Unknown status"),
+        _ => not_allowed(w),
     }
 }
 

@@ -1,13 +1,21 @@
 -- `machine::apply` meets its contract.
-use mathlib.Core.Path.{refl, ap, _∙_}
-use borrow.Author.Needs.{needs}
-use Rattle.bodies.specs.Body.{count}
-use Rattle.store.specs.Image.{activateIn}
-use Rattle.session.specs.Session.{placed}
-use Rattle.machine.proofs.Saying.{said-only, same-file, same-record, same-update}
+use mathlib.Core.Path.{refl}
+use Rattle.machine.proofs.Saying.{said-only, same-file}
 use Rattle.machine.specs.Effects.{done}
+use borrow.Author.Needs.{needs}
 use Rattle.machine.proofs.apply.Statement.{statement}
 use Rattle.machine.proofs.apply.Tie as tie
+use Rattle.files.proofs.id_of.Reads as id-of-reads
+use Rattle.machine.proofs.activate.Reads as activate-reads
+use Rattle.machine.proofs.append.Reads as append-reads
+use Rattle.machine.proofs.bytes.Reads as bytes-reads
+use Rattle.machine.proofs.entered.Reads as entered-reads
+use Rattle.machine.proofs.finish.Reads as finish-reads
+use Rattle.machine.proofs.placed.Reads as placed-reads
+use Rattle.machine.proofs.read.Reads as read-reads
+use Rattle.machine.proofs.report.Reads as report-reads
+use Rattle.machine.proofs.seek.Reads as seek-reads
+use Rattle.machine.proofs.write.Reads as write-reads
 
 enum-known-d : tie.Need-enum-known-d
 enum-known-d c = search needs
@@ -40,79 +48,37 @@ enum-known-d-4 : tie.Need-enum-known-d-4
 enum-known-d-4 c = search needs
 
 bytes-requires : tie.Need-bytes-requires
-bytes-requires c κs =
-    let p = c .before .before .before .before .before .before .before .before .pre in
-    let a = rw (c .before .before .before .d4 .given .1) at p .2 in
-    (p .1, a .1, a .2)
+bytes-requires c κs = let a = rw (c .before .before .before .d4 .given .1) at (c .before .before .before .before .before .before .before .before .pre .2) in (c .before .before .before .before .before .before .before .before .pre .1, a .1, a .2)
 
 enum-known-d-5 : tie.Need-enum-known-d-5
 enum-known-d-5 c = search needs
 
-kind-of-requires : tie.Need-kind-of-requires
-kind-of-requires c κs = search needs
-
-part-requires : tie.Need-part-requires
-part-requires c κs = search needs
-
-update-requires : tie.Need-update-requires
-update-requires c κs = search needs
-
-set-file-requires : tie.Need-set-file-requires
-set-file-requires c κs = search needs
-
-finish-requires-4 : tie.Need-finish-requires-4
-finish-requires-4 c κs = search needs
+write-requires : tie.Need-write-requires
+write-requires c κs = search needs
 
 enum-known-d-6 : tie.Need-enum-known-d-6
 enum-known-d-6 c = search needs
 
-kind-of-requires-2 : tie.Need-kind-of-requires-2
-kind-of-requires-2 c κs = search needs
-
 activate-requires : tie.Need-activate-requires
 activate-requires c κs = search needs
-
-finish-requires-5 : tie.Need-finish-requires-5
-finish-requires-5 c κs = search needs
 
 enum-known-d-7 : tie.Need-enum-known-d-7
 enum-known-d-7 c = search needs
 
-body-requires : tie.Need-body-requires
-body-requires c κs = search needs
-
-count-requires : tie.Need-count-requires
-count-requires c κs = search needs
-
 append-requires : tie.Need-append-requires
 append-requires c κs = search needs
-
-add-t62 : tie.Need-add-t62
-add-t62 c = search needs
-
-placed-requires-2 : tie.Need-placed-requires-2
-placed-requires-2 c κs = search needs
-
-finish-requires-6 : tie.Need-finish-requires-6
-finish-requires-6 c κs = search needs
 
 enum-known-d-8 : tie.Need-enum-known-d-8
 enum-known-d-8 c = search needs
 
 read-requires : tie.Need-read-requires
-read-requires c κs =
-    let p = c .before .before .before .before .before .before .before .before .pre in
-    let a = rw (c .before .before .before .d8 .given .1) at p .2 in
-    (p .0, p .1, a)
+read-requires c κs = (c .before .before .before .before .before .before .before .before .pre .0, c .before .before .before .before .before .before .before .before .pre .1, rw (c .before .before .before .d8 .given .1) at (c .before .before .before .before .before .before .before .before .pre .2))
 
 enum-known-d-9 : tie.Need-enum-known-d-9
 enum-known-d-9 c = search needs
 
 seek-requires : tie.Need-seek-requires
-seek-requires c κs =
-    let p = c .before .before .before .before .before .before .before .before .pre in
-    let a = rw (c .before .before .before .d9 .given .1) at p .2 in
-    (p .0, p .1, a)
+seek-requires c κs = (c .before .before .before .before .before .before .before .before .pre .0, c .before .before .before .before .before .before .before .before .pre .1, rw (c .before .before .before .d9 .given .1) at (c .before .before .before .before .before .before .before .before .pre .2))
 
 enum-known-d-10 : tie.Need-enum-known-d-10
 enum-known-d-10 c = search needs
@@ -159,7 +125,7 @@ same-length-7 c = search needs
 
 returns-5 : tie.Need-returns-5
 unfolding done
-returns-5 c = rw (c .before .before .before .before .before .before .before .before .before .before .before .before .before .d5 .given .1) (said-only _ _ _ _ (c .before .before .before .before .set-file .ensures) (same-update _ _ (c .before .before .before .before .before .before .before .update .ensures .1) (c .before .before .before .before .before .before .before .before .before .kind-of .ensures) (c .before .before .before .before .before .before .before .before .part .ensures)) (c .before .before .finish4 .ensures))
+returns-5 c = rw (c .before .before .before .before .before .before .before .before .d5 .given .1) (c .before .before .before .before .write .ensures)
 
 same-length-8 : tie.Need-same-length-8
 same-length-8 c = search needs
@@ -169,7 +135,7 @@ same-length-9 c = search needs
 
 returns-6 : tie.Need-returns-6
 unfolding done
-returns-6 c = rw (c .before .before .before .before .before .before .before .before .before .before .d6 .given .1) (said-only _ _ _ _ refl (c .before .before .before .before .before .before .activate .ensures .1 ∙ ap (activateIn _) (c .before .before .before .before .before .before .before .kind-of2 .ensures)) (c .before .before .finish5 .ensures))
+returns-6 c = rw (c .before .before .before .before .before .before .before .before .d6 .given .1) (c .before .before .before .before .activate .ensures)
 
 same-length-10 : tie.Need-same-length-10
 same-length-10 c = search needs
@@ -179,7 +145,7 @@ same-length-11 c = search needs
 
 returns-7 : tie.Need-returns-7
 unfolding done
-returns-7 c = rw (c .before .before .before .before .before .before .before .before .before .before .before .before .before .d7 .given .1) (said-only _ _ _ _ (same-record (c .before .before .before .before .before .before .before .before .before .before .before .before .before .before .before .before .before .before .args .s) _ (c .before .before .before .before .before .before .before .before .before .before .body .ensures) (c .before .before .before .before .before .before .before .before .before .count .ensures .0) (c .before .before .before .before .placed2 .ensures)) (c .before .before .before .before .before .before .before .append .ensures .1) (c .before .before .finish6 .ensures))
+returns-7 c = rw (c .before .before .before .before .before .before .before .before .d7 .given .1) (c .before .before .before .before .append .ensures)
 
 same-length-12 : tie.Need-same-length-12
 same-length-12 c = search needs
@@ -227,22 +193,11 @@ apply-spec =
     enum-known-d-4
     bytes-requires
     enum-known-d-5
-    kind-of-requires
-    part-requires
-    update-requires
-    set-file-requires
-    finish-requires-4
+    write-requires
     enum-known-d-6
-    kind-of-requires-2
     activate-requires
-    finish-requires-5
     enum-known-d-7
-    body-requires
-    count-requires
     append-requires
-    add-t62
-    placed-requires-2
-    finish-requires-6
     enum-known-d-8
     read-requires
     enum-known-d-9
