@@ -6,7 +6,7 @@ use mathlib.Core.List.{List, [], _∷_, _++_, append-assoc}
 use native.Mathlib.Omega.{arith}
 use native.Mathlib.Numerals.{add-one}
 use native.Mathlib.Nat.{add-zero, add-suc}
-use lib.ListN.{length, getD, take, drop, set}
+use lib.ListN.{length, getD, take, drop, set, length-append}
 use lib.Seq.{sets, getD-set-other, drop-set-lt, drop-set-add, take-suc, length-sets, sets-eq, drop-at, take-at, length-take-le, take-all}
 use borrow.Author.Tests.{le-leb, lt-leb}
 use Rattle.base.specs.Bytes.{part, fits, put}
@@ -84,3 +84,13 @@ module _ (xs : List ℕ) (at : ℕ) (b : List ℕ) where
   pub length-put : length (put xs at b) ≡ length xs
   unfolding put
   length-put = pick-ind (λ (l : List ℕ). length l ≡ length xs) (fits xs at b) (λ e. length-sets xs at b) (λ e. refl)
+
+-- a run behind a run is the run of both
+pub put-behind : (out : List ℕ) (at : ℕ) (a b : List ℕ) → at + length (a ++ b) ≤ length out → put (put out at a) (at + length a) b ≡ put out at (a ++ b)
+put-behind out at a b h =
+    let l = length-append a b in
+    let p : put out at a ≡ sets out at a = put-yes out at a (omega arith) in
+    ap (λ (x : List ℕ). put x (at + length a) b) p
+    ∙ put-yes (sets out at a) (at + length a) b (omega (arith, length-sets out at a))
+    ∙ sym (sets-append out at a b)
+    ∙ sym (put-yes out at (a ++ b) h)

@@ -85,8 +85,8 @@ isRule r (Is q) =
     ∷ eqb (q .most) (r .most)
     ∷ [])
 
--- the table's rule: sizes within their bounds, the kind's high byte the application, and the kind, the id and the short id each
--- find this rule and no other
+-- the table's rule: sizes within their bounds, an id of two bytes, the kind's high byte the application, and the kind, the id and the
+-- short id each find this rule and no other
 regular : Rule → Bool
 regular r =
     every
@@ -99,6 +99,7 @@ regular r =
     ∷ isRule r (ruleOf (Kind (r .kind)))
     ∷ isRule r (ruleOf (Id (r .application) (r .id)))
     ∷ isRule r (ruleOf (Short (r .application) (r .short)))
+    ∷ leb (r .id) 0xFFFF
     ∷ [])
 
 pub record Regular (r : Rule) : Type 0 where
@@ -111,6 +112,7 @@ pub record Regular (r : Rule) : Type 0 where
   pub by-kind : ruleOf (Kind (r .kind)) ≡ Is r
   pub by-id : ruleOf (Id (r .application) (r .id)) ≡ Is r
   pub by-short : ruleOf (Short (r .application) (r .short)) ≡ Is r
+  pub id-small : r .id ≤ 0xFFFF
 
 is-rule : (r : Rule) (found : Ruled) → isRule r found ≡ true → found ≡ Is r
 unfolding isRule
@@ -142,6 +144,7 @@ rule-regular key r e =
       by-kind = is-rule r _ (h .1 .1 .1 .1 .1 .1 .0);
       by-id = is-rule r _ (h .1 .1 .1 .1 .1 .1 .1 .0);
       by-short = is-rule r _ (h .1 .1 .1 .1 .1 .1 .1 .1 .0);
+      id-small = leb-true _ _ (h .1 .1 .1 .1 .1 .1 .1 .1 .1 .0);
     }
   where
     whole : allRules regular rules ≡ true

@@ -1,13 +1,13 @@
 -- What is known of a decision: the command that it comes from, and that command's tests, which all held.
-use Prim.Native.Nat.{ℕ, _+_, _-_, _/_, _%_, _≤_, _<_, min}
+use Prim.Native.Nat.{ℕ, _+_, _-_, _/_, _%_, _≤_, _<_}
 use mathlib.Core.Path.{_≡_, refl, sym, ap, _∙_, subst}
-use mathlib.Core.Bool.{Bool, true, false}
-use mathlib.Core.List.{List, [], _∷_}
+use mathlib.Core.Bool.{Bool, true, _||_, or-true}
+use mathlib.Core.List.{List, []}
 use native.Mathlib.Omega.{arith}
 use lib.ListN.{length, length-take, length-drop, List·getD-eq-default}
 use lib.Dec.{leb, ltb, eqb, lit<}
 use borrow.Author.Tests.{leb-true, ltb-true, ltb-false}
-use Rattle.base.specs.Choice.{pick, every}
+use Rattle.base.specs.Choice.{pick}
 use Rattle.base.specs.Bytes.{part}
 use Rattle.base.proofs.Cases.{by-cases, pick-ind, held}
 use Rattle.base.proofs.Parts.{getD-part, length-part}
@@ -31,12 +31,11 @@ use Rattle.templates.proofs.Searches.{search-sound}
 use Rattle.files.specs.Files.{content, kindOf}
 use Rattle.files.specs.declared.File.{File}
 use Rattle.files.specs.declared.File.the-variants.{Missing, Info, Dir, Records, Biometrics}
-use Rattle.session.specs.Order.{inOrder}
 use Rattle.session.specs.Reach.{reach}
-use Rattle.session.specs.Session.{currentRecord}
+use Rattle.session.specs.Session.{applicationFits}
 use Rattle.session.specs.declared.Session.{Session}
 use Rattle.session.specs.declared.Named.{Named}
-use Rattle.session.specs.declared.Named.the-variants.{Current, Short, Id}
+use Rattle.session.specs.declared.Named.the-variants.{Current, Id}
 use Rattle.session.specs.declared.Task.{Task}
 use Rattle.session.specs.declared.Task.the-variants.{Look, ReadBytes, WriteBytes, ReadRecords, AppendRecord}
 use Rattle.session.specs.declared.Reached.{Reached}
@@ -100,10 +99,10 @@ pub record SearchBy (img : List ℕ) (s : Session) (f : Frame) (d : List ℕ) (r
   pub most : ne ≡ f .ne
   pub file : FileReached img s ReadRecords (Records r)
 
--- the command that a decision comes from, and the tests of it that held; a status word alone is never 9000
+-- the command that a decision comes from, and the tests of it that held; a status word alone is below 9000
 abbrev pub From : List ℕ → Session → Frame → List ℕ → Decision → Type 0
-From img s f d (Status w) = eqb w 0x9000 ≡ false
-From img s f d (Enter a) = Pair f 0x00 0xA4
+From img s f d (Status w) = ltb w 0x9000 ≡ true
+From img s f d (Enter a) = Pair f 0x00 0xA4 × (applicationFits img a ≡ true)
 From img s f d (Choose g) = Pair f 0x00 0xA4 × FileReached img s Look g
 From img s f d (ReadOf g o n) = Pair f 0x00 0xB0 × FileReached img s ReadBytes g × (n ≤ 2048) × (o + n ≤ length (content img g))
 From img s f d (Write g w) = Pair f 0x00 0xD7 × Writable img s g w
@@ -130,10 +129,12 @@ module _ (img : List ℕ) (s : Session) (f : Frame) (d : List ℕ) where
   select-from i = in-order P _ _ (refl, (refl, (refl, (refl, tt)))) (λ p. chosen (f .header .p1))
     where
       master : (x : ℕ) → P (selectMaster x)
-      master x = unfold selectMaster in pick-ind P (eqb x 0x3F00) (λ e. i) (λ e. refl)
+      master x = unfold selectMaster applicationFits in pick-ind P (eqb x 0x3F00) (λ e. (i, refl)) (λ e. refl)
 
       aid : (a : ℕ) → P (selectAid img s a)
-      aid a = unfold selectAid in in-order P _ _ (refl, (refl, tt)) (λ p. i)
+      aid a =
+          unfold selectAid applicationFits in
+          in-order P _ _ (refl, (refl, tt)) (λ p. (i, ap (λ (b : Bool). eqb a 0 || b) (p .0) ∙ or-true (eqb a 0)))
 
       file : (x : ℕ) → P (selectFile img s x)
       file x = unfold selectFile in at-file Look (Id x) Choose (λ g e r. (i, r))
@@ -297,7 +298,7 @@ from-allowed img s f d (Read r a z) b h = h .readable
 from-allowed img s f d (Seek r q ne) b h = (h .file, reference-short d q (h .asks) b)
 from-allowed img s f d (Report g p2) b h = h .1
 
-bytes-part : (c : List ℕ) (a n : ℕ) → Bytes c → Bytes (part c a n)
+pub bytes-part : (c : List ℕ) (a n : ℕ) → Bytes c → Bytes (part c a n)
 unfolding Bytes
 bytes-part c a n b i =
     by-cases (ltb i n)

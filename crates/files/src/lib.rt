@@ -6,14 +6,13 @@ use bodies::rules::Rule;
 use bodies::rules::Ruled;
 use store::image;
 ghost use mathlib.Core.Path.{_≡_};
-ghost use mathlib.Core.List.{List};
-ghost use Prim.Native.Nat.{ℕ, _+_, _≤_, _<_};
+ghost use Prim.Native.Nat.{_+_, _≤_, _<_};
 ghost use lib.ListN.{length, take};
 ghost use lib.Seq.{sets};
 ghost use Rattle.base.specs.Choice.{pick};
 ghost use Rattle.base.specs.Bytes.{part, fits, put};
 ghost use Rattle.store.specs.Image.{has};
-ghost use Rattle.files.specs.Master.{info, entryOf, entries, dir};
+ghost use Rattle.files.specs.Master.{info, entryOf, dir};
 ghost use Rattle.files.specs.Files.{biometricsById, byId, byShort, idOf, kindOf, content};
 
 pub enum File {

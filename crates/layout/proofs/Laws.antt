@@ -1,27 +1,36 @@
 -- A session as bytes: what is written is read back, and bytes that are none are refused with 4, after 1 and 2.
 use Prim.Native.Nat.{ℕ, _+_, _*_, _/_, _%_, _≤_, _<_}
-use mathlib.Core.Path.{_≡_, refl, sym, ap, ap₂, _∙_}
-use mathlib.Core.Bool.{Bool, true, false}
+use mathlib.Core.Path.{_≡_, refl, sym, ap, ap₂, _∙_, subst}
+use mathlib.Core.Bool.{true, false}
 use mathlib.Core.List.{List, [], _∷_, _++_, append-assoc}
 use native.Mathlib.Omega.{arith}
-use lib.ListN.{length, getD, drop, take, length-append}
-use lib.Seq.{sets, sets-eq, getD-append-add, take-append-le, take-all}
-use lib.Dec.{ltb, leb, eqb}
-use borrow.Author.Tests.{le-leb, le-ltb}
+use lib.ListN.{length, getD, drop, length-append}
+use lib.Seq.{sets-eq, getD-append-add, take-append-le, take-all}
+use lib.Dec.{ltb, leb, eqb, lit<}
+use borrow.Author.Tests.{le-leb, leb-true, le-ltb, eqb-true}
 use Rattle.base.specs.Choice.{pick, every}
 use Rattle.base.specs.Bytes.{put}
+use Rattle.base.proofs.Cases.{by-cases, false-true, held as held-tests}
 use Rattle.base.proofs.Runs.{put-yes}
+use Rattle.bodies.specs.Body.{count}
 use Rattle.bodies.specs.Little.{le16}
-use Rattle.store.specs.Image.{present, wellFormed}
-use Rattle.rights.specs.Chain.{certificate, noRights, held}
+use Rattle.bodies.specs.Rules.{isBiometrics}
+use Rattle.bodies.specs.declared.rules.Key.the-variants.{Kind}
+use Rattle.store.specs.Image.{present, body, wellFormed}
+use Rattle.store.proofs.Laws.{rule-regular, body-count, record-file}
+use Rattle.files.specs.Files.{byId, idOf}
+use Rattle.files.specs.declared.File.{File}
+use Rattle.files.specs.declared.File.the-variants.{Missing, Info, Dir, Records, Biometrics}
+use Rattle.files.proofs.Meant.{FileOk, by-id-ok, by-id-named}
+use Rattle.rights.specs.Chain.{certificate, held}
 use Rattle.rights.specs.declared.Rights.{Rights}
-use Rattle.session.specs.Session.{applicationFits, fits}
+use Rattle.session.specs.Session.{applicationFits, isThere, recordFits, placeFits, fits}
+use Rattle.session.proofs.Steps.{named-there}
 use Rattle.session.specs.Refusals.{refusal}
 use Rattle.session.specs.declared.Place.{Place}
 use Rattle.session.specs.declared.Place.the-variants.{Nothing, File as OnFile, Record as OnRecord}
 use Rattle.session.specs.declared.Session.{Session}
-use Rattle.session.specs.declared.Refusal.{Refusal}
-use Rattle.session.specs.declared.Refusal.the-variants.{Taken, ShortBuffer, BadImage, BadSession}
+use Rattle.session.specs.declared.Refusal.the-variants.{ShortBuffer, BadImage, BadSession}
 use Rattle.layout.specs.Layout.{placeBytes, sessionBytes, placeIn, unusedZero, isSession, sessionOf}
 
 -- ---- a session that 25 bytes can hold
@@ -141,9 +150,65 @@ read-back s ses h l =
     ap sessionOf (put-yes ses 0 (sessionBytes s) (omega arith) ∙ sets-eq (sessionBytes s) ses 0 (omega arith))
     ∙ read-start s (drop (0 + length (sessionBytes s)) ses) h
 
+-- ---- a session that fits an image is one that 25 bytes can hold
+
+module _ (img : List ℕ) where
+  id-small : (f : File) → FileOk img f → idOf f < 65536
+  unfolding idOf isBiometrics
+  id-small Missing k = lit< tt
+  id-small Info k = lit< tt
+  id-small Dir k = lit< tt
+  id-small (Records r) k = omega (arith, rule-regular (Kind (r .kind)) r (k .by-kind) .id-small)
+  id-small (Biometrics n) k = omega (arith, leb-true (0x0400 + n) 0x0440 (held-tests _ (k .kind) .1 .0))
+
+  file-held : (a i : ℕ) → isThere (byId img a i) ≡ true → i < 65536
+  file-held a i h = subst (λ (k : ℕ). k < 65536) (named-there i (byId img a i) h (by-id-named img a i)) (id-small (byId img a i) (by-id-ok img a i))
+
+  module _ (o : wellFormed img ≡ true) where
+    record-held : (f : File) (n : ℕ) → FileOk img f → recordFits img f n ≡ true → (isThere f ≡ true) × (n < 256)
+    record-held Missing n k e = false-true e
+    record-held Info n k e = false-true e
+    record-held Dir n k e = false-true e
+    record-held (Biometrics m) n k e = false-true e
+    record-held (Records r) n k e =
+        let c = leb-true n (count (body img (r .kind))) (held-tests (leb 1 n ∷ leb n (count (body img (r .kind))) ∷ []) e .1 .0) in
+        let m = body-count (r .longest) (r .most) (body img (r .kind)) (record-file img (r .kind) r o (k .by-kind) (k .stands)) in
+        (refl, omega (arith, c, m, rule-regular (Kind (r .kind)) r (k .by-kind) .many))
+
+    place-held : (a : ℕ) (p : Place) → placeFits img a p ≡ true → PlaceHeld p
+    unfolding placeFits
+    place-held a Nothing e = tt
+    place-held a (OnFile i) e = file-held a i e
+    place-held a (OnRecord i n) e = let h = record-held (byId img a i) n (by-id-ok img a i) e in (file-held a i (h .0), h .1)
+
+    application-held : (a : ℕ) → applicationFits img a ≡ true → a ≤ 3
+    unfolding applicationFits present
+    application-held a e =
+        by-cases (eqb a 0)
+        (λ z. omega (arith, eqb-true a 0 z))
+        (λ z. leb-true a 3 (held-tests _ (simp z at e) .1 .0))
+
+    pub fits-storable : (s : Session) → fits img s ≡ true → length (s .rights .biometrics) ≡ 17 → Storable s
+    unfolding fits
+    fits-storable s e l =
+        let h = held-tests _ e in
+        record { application = application-held (s .application) (h .0); biometrics = l; place = place-held (s .application) (s .place) (h .1 .0) }
+
 -- ---- bytes that are no session
+
+no-fit : (img ses : List ℕ) → isSession ses ≡ false → fits img (sessionOf ses) ≡ false
+unfolding fits applicationFits present sessionOf every
+no-fit img ses e = simp e
 
 -- "get refusal 4, after 1 and 2"
 pub no-session : (img ses : List ℕ) (n : ℕ) → isSession ses ≡ false → refusal img (sessionOf ses) n ≡ pick (ltb n 2050) ShortBuffer (pick (wellFormed img) BadSession BadImage)
-unfolding refusal fits applicationFits present sessionOf every
-no-session img ses n e = simp e
+unfolding refusal
+no-session img ses n e = simp (no-fit img ses e)
+
+-- so bytes whose session fits an image are 25 at least
+pub fits-session : (img ses : List ℕ) → fits img (sessionOf ses) ≡ true → 25 ≤ length ses
+unfolding isSession
+fits-session img ses e =
+    by-cases (isSession ses)
+    (λ y. leb-true 25 (length ses) (held-tests _ y .0))
+    (λ n. false-true (sym (no-fit img ses n) ∙ e))

@@ -7,8 +7,7 @@ use native.Mathlib.Omega.{arith}
 use lib.ListN.{length, length-append}
 use lib.Seq.{sets, length-sets}
 use Rattle.base.specs.Bytes.{fits, put}
-use Rattle.base.proofs.Runs.{fits-yes, fits-no, put-yes, put-no}
-use Rattle.writer.proofs.Writings.{put-behind}
+use Rattle.base.proofs.Runs.{fits-yes, fits-no, put-yes, put-no, put-behind}
 
 module _ (out a b c : List ℕ) (i : length a ≡ 3) (j : length b ≡ 17) (k : length c ≡ 5) where
   abbrev all : List ℕ

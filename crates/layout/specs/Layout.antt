@@ -9,7 +9,6 @@ use lib.Dec.{leb, eqb}
 use Rattle.base.specs.Choice.{pick, every}
 use Rattle.bodies.specs.Little.{le16}
 use Rattle.rights.specs.Chain.{held}
-use Rattle.rights.specs.declared.Rights.{Rights}
 use Rattle.session.specs.declared.Place.{Place}
 use Rattle.session.specs.declared.Place.the-variants.{Nothing, File as OnFile, Record as OnRecord}
 use Rattle.session.specs.declared.Session.{Session}

@@ -11,11 +11,11 @@ use lib.Dec.{ltb}
 use borrow.Author.Tests.{le-ltb}
 use Rattle.base.specs.Choice.{pick}
 use Rattle.base.specs.Bytes.{put}
-use Rattle.base.proofs.Runs.{fits-yes, put-yes}
+use Rattle.base.proofs.Runs.{fits-yes, put-yes, put-behind}
 use Rattle.bodies.specs.Body.{count}
 use Rattle.store.specs.Image.{updateIn}
 use Rattle.writer.specs.Writer.{after}
-use Rattle.writer.proofs.Writings.{put-behind, after-yes}
+use Rattle.writer.proofs.Writings.{after-yes}
 use Rattle.replies.specs.Joined.{recordsData}
 use Rattle.replies.specs.Report.{reportData}
 use Rattle.replies.proofs.Bounds.{records-bound}

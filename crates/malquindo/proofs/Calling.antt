@@ -3,7 +3,7 @@ use Prim.Native.Nat.{ℕ}
 use mathlib.Core.Path.{_≡_, ap, ap₂, _∙_}
 use mathlib.Core.List.{List}
 use Rattle.session.specs.declared.Session.{Session}
-use Rattle.machine.specs.Outcome.{Outcome, outcome}
+use Rattle.machine.specs.Outcome.{outcome}
 use Rattle.machine.specs.Step.{step}
 use Rattle.machine.specs.declared.Answer.{Answer}
 use Rattle.layout.specs.Layout.{sessionOf}

@@ -1,19 +1,22 @@
 -- The data of an answer, and when a call is answered 9000.
 use Prim.Native.Nat.{ℕ, _+_, _-_, _≤_}
 use mathlib.Core.Path.{_≡_, refl, sym, ap, ap₂, _∙_}
-use mathlib.Core.Bool.{true, false}
-use mathlib.Core.List.{List, [], _++_}
+use mathlib.Core.Bool.{true}
+use mathlib.Core.List.{List, _++_}
 use native.Mathlib.Omega.{arith}
 use lib.ListN.{length, take, length-append}
+use lib.Dec.{ltb}
 use lib.Seq.{sets, take-take, take-append-seam}
-use Rattle.base.specs.Bytes.{put}
 use Rattle.base.proofs.Runs.{put-yes, part-sets}
+use Rattle.base.proofs.Cases.{pick-ind}
+use Rattle.store.specs.Image.{wellFormed}
+use Rattle.session.specs.Session.{fits}
 use Rattle.session.specs.Refusals.{numberOf, refusal}
 use Rattle.session.specs.declared.Session.{Session}
 use Rattle.session.specs.declared.Refusal.{Refusal}
 use Rattle.session.specs.declared.Refusal.the-variants.{Taken, ShortBuffer, BadImage, BadRights, BadSession}
 use Rattle.commands.specs.Decide.{decide, dataOf}
-use Rattle.machine.specs.Outcome.{Outcome, word, says}
+use Rattle.machine.specs.Outcome.{word, says}
 use Rattle.machine.specs.Effects.{done}
 use Rattle.machine.specs.Step.{taken, step}
 use Rattle.machine.proofs.Carrying.{Known, known}
@@ -46,6 +49,17 @@ taken-room img s buf e = go (refusal img s (length buf)) e (known img s (length 
     go BadImage e k = absurd (omega (arith, ap numberOf e))
     go BadRights e k = absurd (omega (arith, ap numberOf e))
     go BadSession e k = absurd (omega (arith, ap numberOf e))
+
+pub taken-well : (img : List ℕ) (s : Session) (n : ℕ) → refusal img s n ≡ Taken → (wellFormed img ≡ true) × (fits img s ≡ true)
+unfolding refusal numberOf
+taken-well img s n e =
+    let P : Refusal → Type 0 = λ x. x ≡ Taken → (wellFormed img ≡ true) × (fits img s ≡ true) in
+    pick-ind P (ltb n 2050)
+    (λ _ z. absurd (omega (arith, ap numberOf z)))
+    (λ _. pick-ind P (wellFormed img)
+    (λ w. pick-ind P (fits img s) (λ f z. (w, f)) (λ _ z. absurd (omega (arith, ap numberOf z))))
+    (λ _ z. absurd (omega (arith, ap numberOf z))))
+    e
 
 -- a call answered 9000 is taken
 pub status-taken : (img : List ℕ) (s : Session) (cmd buf : List ℕ) → step img s cmd buf .answer .status ≡ 0x9000 → refusal img s (length buf) ≡ Taken

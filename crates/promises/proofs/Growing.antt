@@ -1,29 +1,25 @@
 -- What calls do to the records of each file.
-use Prim.Native.Nat.{ℕ, _+_, _/_, _≤_, _<_}
+use Prim.Native.Nat.{ℕ, _+_, _/_, _≤_}
 use mathlib.Core.Path.{_≡_, refl, sym, ap, ap₂, subst, _∙_}
 use mathlib.Core.Bool.{Bool, true, false}
 use mathlib.Core.List.{List, [], _∷_, _++_, append-nil, append-assoc}
 use native.Mathlib.Omega.{arith}
 use lib.ListN.{length, drop, length-take}
-use lib.Dec.{leb, eqb}
+use lib.Dec.{eqb, ltb}
 use borrow.Author.Tests.{eqb-true, eqb-false, eq-eqb, leb-true, ltb-true, le-leb}
 use Rattle.base.specs.Choice.{pick, every}
 use Rattle.base.specs.Bytes.{part}
 use Rattle.base.proofs.Cases.{by-cases, pick-ind, false-true, held, all-held}
-use Rattle.base.proofs.Parts.{length-part}
 use Rattle.bodies.specs.Body.{nth}
 use Rattle.bodies.specs.Biometrics.{room, takes}
-use Rattle.bodies.specs.Rules.{ruleOf, isBiometrics}
-use Rattle.store.specs.Image.{has, body, wellFormed, recordsOf, appendTo, updateIn, activateIn}
-use Rattle.bodies.specs.declared.rules.Key.the-variants.{Kind}
+use Rattle.bodies.specs.Rules.{isBiometrics}
+use Rattle.store.specs.Image.{has, body, wellFormed, recordsOf, appendTo, updateIn}
 use Rattle.bodies.specs.declared.rules.Rule.{Rule}
-use Rattle.bodies.specs.declared.rules.Ruled.the-variants.{Is, Nothing}
 use Rattle.store.proofs.Laws.{Accepts, Changed, append-changes, append-list, records-kept, biometrics-file, update-changes, activate-changes, nth-kept}
 use Rattle.templates.specs.declared.Writes.{Writes}
 use Rattle.files.specs.Files.{kindOf}
 use Rattle.files.specs.declared.File.{File}
 use Rattle.files.specs.declared.File.the-variants.{Missing, Info, Dir, Records, Biometrics}
-use Rattle.session.specs.Order.{inOrder}
 use Rattle.session.specs.Reach.{reach, suits, permitted}
 use Rattle.session.specs.Refusals.{refusal}
 use Rattle.session.specs.declared.Session.{Session}
@@ -45,11 +41,12 @@ use Rattle.machine.specs.Outcome.{Outcome, says}
 use Rattle.machine.specs.Effects.{sought, done}
 use Rattle.machine.specs.Step.{taken, step}
 use Rattle.promises.specs.Calls.{Call, Open, Command, next, after, isPair, fileOf, addedBy, added, additions, history}
-use Rattle.promises.specs.Promises.{Held, Holds, Number-kept}
+use Rattle.promises.specs.Promises.{Holds, Number-kept}
 
--- an image in which each record file has some records more
-record Grown (img new : List ℕ) (more : ℕ → List (List ℕ)) : Type 0 where
+-- an image with the same files, in which each record file has some records more
+pub record Grown (img new : List ℕ) (more : ℕ → List (List ℕ)) : Type 0 where
   pub well : wellFormed new ≡ true
+  pub files : (k : ℕ) → has new k ≡ has img k
   pub records : (k : ℕ) → isBiometrics k ≡ false → recordsOf new k ≡ recordsOf img k ++ more k
 
 module _ (img : List ℕ) (o : wellFormed img ≡ true) where
@@ -58,6 +55,7 @@ module _ (img : List ℕ) (o : wellFormed img ≡ true) where
   grown-none e n =
       record {
         well = ap wellFormed e ∙ o;
+        files = λ k. ap (λ (l : List ℕ). has l k) e;
         records = λ k b. ap (λ (l : List ℕ). recordsOf l k) e ∙ sym (append-nil (recordsOf img k)) ∙ ap (λ (l : List (List ℕ)). recordsOf img k ++ l) (sym (n k));
       }
 
@@ -65,6 +63,7 @@ module _ (img : List ℕ) (o : wellFormed img ≡ true) where
   grown-changed new j b c n =
       record {
         well = c .well;
+        files = c .same-files;
         records = λ k h. records-kept img new j c k (λ e. false-true (sym h ∙ ap isBiometrics e ∙ b))
             ∙ sym (append-nil (recordsOf img k)) ∙ ap (λ (l : List (List ℕ)). recordsOf img k ++ l) (sym (n k));
       }
@@ -99,8 +98,8 @@ module _ (img : List ℕ) (s : Session) (cmd : List ℕ) (f : Frame) (w : ℕ) w
       ∙ sym (ap₂ (λ (x y : ℕ). every (eqb x 0x00 ∷ eqb y 0xE2 ∷ [])) (eqb-true (f .header .cla) c (p .0)) (eqb-true (f .header .ins) i (p .1)))
       ∙ held (tests k) h .0))
 
-  by-status : eqb w 0x9000 ≡ false → (k : ℕ) → addedBy k img s cmd w (Good f) ≡ []
-  by-status e k = none k (λ h. false-true (sym e ∙ held (tests k) h .1 .0))
+  by-status : ltb w 0x9000 ≡ true → (k : ℕ) → addedBy k img s cmd w (Good f) ≡ []
+  by-status e k = none k (λ h. absurd (omega (arith, ltb-true w 0x9000 e, eqb-true w 0x9000 (held (tests k) h .1 .0))))
 
   -- its data, to the file that is reached
   module _ (r : Rule) (p : Pair f 0x00 0xE2) (e : reach img s AppendRecord (orCurrent (f .header .p2 / 8)) ≡ At (Records r)) (is : eqb w 0x9000 ≡ true) where
@@ -120,7 +119,7 @@ module _ (img : List ℕ) (s : Session) (cmd : List ℕ) (f : Frame) (w : ℕ) w
 
 module _ (img : List ℕ) (s : Session) (cmd buf : List ℕ) (o : wellFormed img ≡ true) where
   -- an append
-  accepts : (d : List ℕ) (r : Rule) → Appends img s (length d) r → Accepts img (r .kind) r (length d)
+  pub accepts : (d : List ℕ) (r : Rule) → Appends img s (length d) r → Accepts img (r .kind) r (length d)
   accepts d r a =
       record {
         ruled = a .file .ok .by-kind;
@@ -134,7 +133,7 @@ module _ (img : List ℕ) (s : Session) (cmd buf : List ℕ) (o : wellFormed img
   appends-grown : (f : Frame) (r : Rule) → From img s f (part cmd (f .from) (f .lc)) (Append r)
       → Grown img (appendTo img (r .kind) (part cmd (f .from) (f .lc))) (λ k. addedBy k img s cmd 0x9000 (Good f))
   appends-grown f r h =
-      record { well = c .well; records = λ k b. by-cases (eqb k (r .kind)) (λ e. here k (eqb-true k (r .kind) e)) (λ e. there k (eqb-false k (r .kind) e)) }
+      record { well = c .well; files = c .same-files; records = λ k b. by-cases (eqb k (r .kind)) (λ e. here k (eqb-true k (r .kind) e)) (λ e. there k (eqb-false k (r .kind) e)) }
     where
       d : List ℕ
       d = part cmd (f .from) (f .lc)
@@ -180,7 +179,7 @@ module _ (img : List ℕ) (s : Session) (cmd buf : List ℕ) (o : wellFormed img
       → let u = done x img s (part cmd (f .from) (f .lc)) buf in Grown img (u .image) (λ k. addedBy k img s cmd (u .answer .status) (Good f))
   unfolding done says every
   done-grown f (Status w) h = grown-none img o refl (by-status img s cmd f w h)
-  done-grown f (Enter a) h = grown-none img o refl (by-pair img s cmd f 0x9000 0x00 0xA4 h refl)
+  done-grown f (Enter a) h = grown-none img o refl (by-pair img s cmd f 0x9000 0x00 0xA4 (h .0) refl)
   done-grown f (Choose g) h = grown-none img o refl (by-pair img s cmd f 0x9000 0x00 0xA4 (h .0) refl)
   done-grown f (Bytes g a n) h = grown-none img o refl (by-pair img s cmd f 0x9000 0x00 0xB0 (h .0) refl)
   done-grown f (Write g w) h =
@@ -214,19 +213,20 @@ module _ (img : List ℕ) (s : Session) (cmd buf : List ℕ) (o : wellFormed img
 
 -- ---- calls, one after the other
 
-call-grown : (img : List ℕ) (c : Call) → wellFormed img ≡ true → Grown img (next img c) (λ k. added k img c)
+pub call-grown : (img : List ℕ) (c : Call) → wellFormed img ≡ true → Grown img (next img c) (λ k. added k img c)
 unfolding next added step
 call-grown img (Open rights) o = grown-none img o refl (λ k. refl)
 call-grown img (Command s cmd buf) o = taken-grown img s cmd buf o (refusal img s (length buf))
 
 pub calls-held : Holds
 unfolding after additions history
-calls-held img [] o = record { well = o; records = λ k b. sym (append-nil (recordsOf img k)) }
+calls-held img [] o = record { well = o; files = λ k. refl; records = λ k b. sym (append-nil (recordsOf img k)) }
 calls-held img (c ∷ cs) o =
     let g = call-grown img c o in
     let h = calls-held (next img c) cs (g .well) in
     record {
       well = h .well;
+      files = λ k. h .files k ∙ g .files k;
       records = λ k b. h .records k b
           ∙ ap (λ (l : List (List ℕ)). l ++ additions k (next img c) cs) (g .records k b)
           ∙ append-assoc (recordsOf img k) (added k img c) (additions k (next img c) cs);

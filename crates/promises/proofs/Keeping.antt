@@ -1,17 +1,14 @@
 -- What a call keeps, whatever it answers.
-use Prim.Native.Nat.{ℕ, _+_, _≤_, _<_}
+use Prim.Native.Nat.{ℕ, _+_, _≤_}
 use mathlib.Core.Path.{_≡_, refl, sym, ap, _∙_}
-use mathlib.Core.Bool.{Bool, true, false}
 use mathlib.Core.List.{List, [], _++_}
 use native.Mathlib.Omega.{arith}
 use lib.ListN.{length, drop, length-append}
-use lib.Seq.{sets, length-sets}
-use Rattle.base.specs.Choice.{pick}
+use lib.Seq.{length-sets}
 use Rattle.base.specs.Bytes.{fits, put}
 use Rattle.base.proofs.Cases.{pick-ind}
 use Rattle.base.proofs.Runs.{drop-sets-past}
 use Rattle.session.specs.Refusals.{numberOf, refusal}
-use Rattle.session.specs.Order.{inOrder}
 use Rattle.session.specs.declared.Session.{Session}
 use Rattle.session.specs.declared.Refusal.{Refusal}
 use Rattle.session.specs.declared.Refusal.the-variants.{Taken, ShortBuffer, BadImage, BadRights, BadSession}
@@ -19,7 +16,7 @@ use Rattle.session.proofs.Steps.{in-order}
 use Rattle.commands.specs.Decide.{decide, dataOf}
 use Rattle.decision.specs.declared.Decision.{Decision}
 use Rattle.decision.specs.declared.Decision.the-variants.{Status, Enter, Choose, Bytes, Write, Activate, Append, Read, Seek, Report}
-use Rattle.machine.specs.Outcome.{Outcome, outcome, refused, word, says}
+use Rattle.machine.specs.Outcome.{outcome, refused, word, says}
 use Rattle.machine.specs.Effects.{sought, done}
 use Rattle.machine.specs.Step.{taken, step}
 use Rattle.promises.specs.Promises.{Kept, Says-no}

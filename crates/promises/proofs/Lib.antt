@@ -5,4 +5,6 @@ pub mod Growing
 pub mod Answering
 pub mod Reading
 pub mod Searching
+pub mod Fitting
+pub mod Linking
 pub mod Promises

@@ -1,23 +1,18 @@
 -- An opening answers nothing, and is refused for anything but 60 bytes.
-use Prim.Native.Nat.{ℕ}
 use mathlib.Core.Path.{_≡_, refl, sym, ap, _∙_}
-use mathlib.Core.Bool.{Bool, true, false}
-use mathlib.Core.List.{List, [], _∷_}
+use mathlib.Core.Bool.{Bool}
 use lib.ListN.{length, replicate}
-use lib.Dec.{eqb}
 use borrow.Author.Tests.{eq-eqb, ne-eqb}
-use Rattle.base.specs.Choice.{pick, every}
+use Rattle.base.specs.Choice.{pick}
 use Rattle.rights.specs.Rights.{bit}
 use Rattle.rights.specs.Chain.{certificate, joinedBytes, joined, clearedBytes, cleared, noRights, effective}
 use Rattle.rights.specs.declared.Rights.{Rights}
 use Rattle.session.specs.Refusals.{numberOf, openRefusal}
 use Rattle.session.specs.Session.{opened}
-use Rattle.session.specs.declared.Session.{Session}
-use Rattle.session.specs.declared.Refusal.{Refusal}
 use Rattle.session.specs.declared.Refusal.the-variants.{Taken, BadRights}
 use Rattle.session.specs.declared.Place.the-variants.{Nothing}
 use Rattle.machine.specs.Step.{opening}
-use Rattle.promises.specs.Promises.{Opened, Opens}
+use Rattle.promises.specs.Promises.{Opens}
 
 -- 60 zero bytes open with no rights
 zeros : effective (replicate 60 0) ≡ noRights

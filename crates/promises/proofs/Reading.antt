@@ -1,5 +1,5 @@
 -- READ RECORD returns the records of a file's history.
-use Prim.Native.Nat.{ℕ, _+_, _/_, _%_, _≤_}
+use Prim.Native.Nat.{ℕ, _≤_}
 use mathlib.Core.Path.{_≡_, refl, sym, ap, ap₂, subst, _∙_}
 use mathlib.Core.Bool.{Bool, true, false}
 use mathlib.Core.List.{List, [], _∷_}
@@ -7,16 +7,15 @@ use native.Mathlib.Omega.{arith}
 use lib.ListN.{length, take}
 use lib.Seq.{take-all}
 use lib.Dec.{eqb}
-use borrow.Author.Tests.{eqb-true, eq-eqb, ne-eqb, leb-true}
+use borrow.Author.Tests.{eqb-true, eq-eqb, ne-eqb, leb-true, ltb-true}
 use Rattle.base.specs.Choice.{pick, every}
 use Rattle.base.specs.Bytes.{part}
-use Rattle.base.proofs.Cases.{by-cases, false-true, held}
+use Rattle.base.proofs.Cases.{by-cases, false-true}
 use Rattle.bodies.specs.Body.{count, nth}
-use Rattle.bodies.specs.Rules.{ruleOf, isBiometrics}
+use Rattle.bodies.specs.Rules.{isBiometrics}
 use Rattle.store.specs.Image.{body, wellFormed, recordsOf}
 use Rattle.bodies.specs.declared.rules.Key.the-variants.{Kind}
 use Rattle.bodies.specs.declared.rules.Rule.{Rule}
-use Rattle.bodies.specs.declared.rules.Ruled.{Ruled}
 use Rattle.bodies.specs.declared.rules.Ruled.the-variants.{Is, Nothing}
 use Rattle.store.proofs.Laws.{rule-regular, biometrics-unruled, records-count, record-file, record-size}
 use Rattle.files.specs.declared.File.the-variants.{Records}
@@ -24,21 +23,19 @@ use Rattle.session.specs.declared.Session.{Session}
 use Rattle.session.specs.declared.Task.{Task}
 use Rattle.session.specs.declared.Task.the-variants.{ReadRecords}
 use Rattle.session.proofs.Steps.{FileReached}
-use Rattle.apdu.specs.Shape.{shapeOf}
 use Rattle.apdu.specs.declared.Apdu.{Apdu}
-use Rattle.apdu.specs.declared.Apdu.the-variants.{Good}
 use Rattle.apdu.specs.declared.Frame.{Frame}
 use Rattle.commands.specs.Decide.{decide, dataBy, dataOf}
 use Rattle.decision.specs.declared.Decision.{Decision}
 use Rattle.decision.specs.declared.Decision.the-variants.{Status, Enter, Choose, Bytes, Write, Activate, Append, Read, Seek, Report}
 use Rattle.commands.proofs.Allowing.{Pair, From, FromShape, ReadBy, decide-from}
-use Rattle.replies.specs.Joined.{joined, recordsData}
+use Rattle.replies.specs.Joined.{recordsData}
 use Rattle.replies.proofs.Joining.{joined-one}
 use Rattle.replies.proofs.Bounds.{records-bound}
 use Rattle.machine.specs.Outcome.{Outcome, says}
 use Rattle.machine.specs.Effects.{done}
 use Rattle.machine.specs.Step.{step}
-use Rattle.promises.specs.Calls.{Call, after, isPair, history}
+use Rattle.promises.specs.Calls.{after, isPair, history}
 use Rattle.promises.specs.Promises.{dataIn, Reads, Reads-history}
 use Rattle.promises.proofs.Answering.{data-said, step-taken, taken-room, status-taken}
 use Rattle.promises.proofs.Growing.{calls-held}
@@ -107,8 +104,8 @@ module _ (img : List ℕ) (s : Session) (cmd buf : List ℕ) (f : Frame) (o : we
   read-decided : (rs : ℕ → List (List ℕ)) → ((k : ℕ) → isBiometrics k ≡ false → recordsOf img k ≡ rs k) → isPair f 0x00 0xB2 ≡ true → (x : Decision) → From img s f d x
       → done x img s d buf .answer .status ≡ 0x9000 → Reads img s f rs (done x img s d buf)
   unfolding every
-  read-decided rs same q (Status w) h e = false-true (sym h ∙ eq-eqb w 0x9000 (unfold done says in e))
-  read-decided rs same q (Enter a) h e = other 0x00 0xA4 h q refl
+  read-decided rs same q (Status w) h e = let z : w ≡ 0x9000 = unfold done says in e in absurd (omega (arith, ltb-true w 0x9000 h))
+  read-decided rs same q (Enter a) h e = other 0x00 0xA4 (h .0) q refl
   read-decided rs same q (Choose g) h e = other 0x00 0xA4 (h .0) q refl
   read-decided rs same q (Bytes g a n) h e = other 0x00 0xB0 (h .0) q refl
   read-decided rs same q (Write g w) h e = other 0x00 0xD7 (h .0) q refl

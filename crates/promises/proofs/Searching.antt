@@ -1,9 +1,9 @@
 -- SEARCH RECORD names exactly the records of a file's history that match.
-use Prim.Native.Nat.{ℕ, _+_, _≤_, _<_}
-use mathlib.Core.Path.{_≡_, refl, sym, ap, ap₂, subst, _∙_}
+use Prim.Native.Nat.{ℕ, _≤_}
+use mathlib.Core.Path.{_≡_, refl, sym, ap, subst, _∙_}
 use mathlib.Core.Bool.{Bool, true, false}
 use mathlib.Core.Logic.{⊎-elim}
-use mathlib.Core.List.{List, [], _∷_, _++_}
+use mathlib.Core.List.{List, [], _∷_}
 use mathlib.Core.List.{List·Memᴰ, List·Memᴰ·head, List·Memᴰ·not-nil, List·Memᴰ·cases-cons}
 use native.Mathlib.Omega.{arith}
 use lib.ListN.{length, take, getD}
@@ -15,29 +15,26 @@ use Rattle.base.proofs.Cases.{by-cases, false-true}
 use Rattle.bodies.specs.Body.{nth}
 use Rattle.store.specs.Image.{wellFormed, recordsOf}
 use Rattle.bodies.specs.declared.rules.Rule.{Rule}
-use Rattle.objects.specs.Encoding.{Bytes}
 use Rattle.window.specs.Window.{occursIn, windowOf, matchesIn}
-use Rattle.window.proofs.Occurring.{Occurs, occurs-sound, occurs-complete}
+use Rattle.window.proofs.Occurring.{occurs-sound, occurs-complete}
 use Rattle.templates.specs.declared.Search.{Search}
-use Rattle.files.specs.declared.File.the-variants.{Records}
 use Rattle.session.specs.Session.{placed}
 use Rattle.session.specs.declared.Session.{Session}
 use Rattle.session.specs.declared.Place.the-variants.{Record as OnRecord}
 use Rattle.session.specs.declared.Task.the-variants.{ReadRecords}
-use Rattle.session.proofs.Steps.{FileReached}
-use Rattle.commands.specs.Decide.{decide, dataOf}
+use Rattle.commands.specs.Decide.{dataOf}
 use Rattle.decision.specs.declared.Decision.{Decision}
 use Rattle.decision.specs.declared.Decision.the-variants.{Seek}
 use Rattle.commands.proofs.Allowing.{Allowed, decide-allowed}
-use Rattle.replies.specs.Found.{matching, hits, foundData}
-use Rattle.replies.proofs.Matching.{Up, matching-sound, matching-complete, matching-ascends, matching-none, none-matching, first-match, none-hits, hits-none}
+use Rattle.replies.specs.Found.{matching, hits}
+use Rattle.replies.proofs.Matching.{Up, matching-sound, matching-complete, matching-ascends, first-match, none-hits, hits-none}
 use Rattle.machine.specs.Outcome.{Outcome, says}
 use Rattle.machine.specs.Effects.{hitsOf, foundOf, sought, done}
 use Rattle.machine.specs.Step.{step}
 use Rattle.machine.proofs.Seeking.{found-short, sought-none, sought-over, sought-found}
-use Rattle.promises.specs.Calls.{Call, after, history}
+use Rattle.promises.specs.Calls.{after, history}
 use Rattle.promises.specs.Matches.{Stands, Matches}
-use Rattle.promises.specs.Promises.{dataIn, Searching, Ascending, Names, Leaves-none-out}
+use Rattle.promises.specs.Promises.{dataIn, Ascending, Names, Leaves-none-out}
 use Rattle.promises.proofs.Answering.{data-said, step-taken, taken-room}
 use Rattle.promises.proofs.Growing.{calls-held}
 use Rattle.promises.proofs.Reading.{reached-records}

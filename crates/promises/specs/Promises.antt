@@ -1,21 +1,19 @@
 -- The promises. Each is a type; the theorem of the same name, in ../proofs/Promises.antt, is its proof.
-use Prim.Native.Nat.{ℕ, _-_, _/_, _%_, _≤_, _<_}
+use Prim.Native.Nat.{ℕ, _+_, _-_, _*_, _/_, _%_, _≤_, _<_}
 use mathlib.Core.Path.{_≡_}
 use mathlib.Core.Bool.{true, false}
-use mathlib.Core.Logic.{_⊎_}
 use mathlib.Core.List.{List, [], _∷_, _++_, List·Memᴰ}
 use lib.ListN.{length, take, drop, getD, replicate}
-use lib.Dec.{eqb}
 use Rattle.base.specs.Bytes.{part}
 use Rattle.bodies.specs.Body.{nth}
 use Rattle.bodies.specs.Rules.{isBiometrics}
-use Rattle.store.specs.Image.{wellFormed, recordsOf}
+use Rattle.store.specs.Image.{has, wellFormed, recordsOf}
 use Rattle.bodies.specs.declared.rules.Rule.{Rule}
 use Rattle.objects.specs.Encoding.{Bytes}
 use Rattle.templates.specs.declared.Search.{Search}
 use Rattle.files.specs.declared.File.the-variants.{Records}
 use Rattle.session.specs.Refusals.{numberOf, refusal}
-use Rattle.session.specs.Session.{opened}
+use Rattle.session.specs.Session.{opened, fits}
 use Rattle.session.specs.Reach.{reach}
 use Rattle.session.specs.declared.Session.{Session}
 use Rattle.session.specs.declared.Refusal.the-variants.{Taken}
@@ -33,6 +31,8 @@ use Rattle.replies.specs.Found.{foundData}
 use Rattle.machine.specs.Outcome.{Outcome}
 use Rattle.machine.specs.Step.{step, opening}
 use Rattle.machine.specs.declared.Answer.{Answer}
+use Rattle.layout.specs.Layout.{sessionOf}
+use Rattle.malquindo.specs.Face.{openSession, called}
 use Rattle.promises.specs.Calls.{Call, after, isPair, history}
 use Rattle.promises.specs.Matches.{Matches}
 
@@ -67,10 +67,11 @@ Opens = (rights : List ℕ) → Opened rights (opening rights)
 
 -- ---- 2. "Can you show that record 7 is still the record 7 that was written, after any commands at all?"
 
--- over any calls the image stays well formed, and the records of each file are its history. k is any kind but a biometrics file's,
--- which has no records; the six record files of document 01 are such kinds
+-- over any calls the image stays well formed, the same files are there, and the records of each file are its history. k is any kind but
+-- a biometrics file's, which has no records; the six record files of document 01 are such kinds
 pub record Held (img : List ℕ) (calls : List Call) : Type 0 where
   pub well : wellFormed (after img calls) ≡ true
+  pub files : (k : ℕ) → has (after img calls) k ≡ has img k
   pub records : (k : ℕ) → isBiometrics k ≡ false → recordsOf (after img calls) k ≡ history k img calls
 
 abbrev pub Holds : Type 0
@@ -150,7 +151,30 @@ Leaves-none-out =
     → Names (history (r .kind) img calls) q (part (dataOf cmd) (q .text .at) (q .text .len)) (part (dataOf cmd) (q .file .at) (q .file .len)) ne
     (step (after img calls) s cmd buf)
 
--- ---- 4. Nothing is left open: two outcomes that meet the contract of the same call are equal
+-- ---- 4. No session is shut out: of the four refusals only the one for a short buffer can meet a session that the machine gave
+
+-- a session that fits the image is taken after any calls, its own and others'
+abbrev pub Stays-taken : Type 0
+Stays-taken =
+    (img : List ℕ) (calls : List Call) (s : Session) (n : ℕ)
+    → wellFormed img ≡ true
+    → fits img s ≡ true
+    → 2050 ≤ n
+    → refusal (after img calls) s n ≡ Taken
+
+-- the session that a command answers fits the image that it leaves
+abbrev pub Answer-fits : Type 0
+Answer-fits =
+    (img : List ℕ) (s : Session) (cmd buf : List ℕ)
+    → wellFormed img ≡ true
+    → fits img s ≡ true
+    → fits (step img s cmd buf .image) (step img s cmd buf .answer .session) ≡ true
+
+-- the session that an opening answers fits any image
+abbrev pub Opening-fits : Type 0
+Opening-fits = (img rights : List ℕ) → fits img (opening rights .session) ≡ true
+
+-- ---- 5. Nothing is left open: two outcomes that meet the contract of the same call are equal
 
 -- the contract of `machine::command` says of an outcome that it is `step`'s, and that of `machine::open` that the answer is `opening`'s
 abbrev pub One-outcome : Type 0
@@ -158,3 +182,22 @@ One-outcome = (img : List ℕ) (s : Session) (cmd buf : List ℕ) (o p : Outcome
 
 abbrev pub One-opening : Type 0
 One-opening = (rights : List ℕ) (a b : Answer) → a ≡ opening rights → b ≡ opening rights → a ≡ b
+
+-- ---- 6. What a program in another language gets is all of it
+
+-- the bytes that `malquindo_command` leaves in the session's buffer are the session that the machine answers, whatever bytes came
+abbrev pub Session-bytes : Type 0
+Session-bytes = (img ses cmd buf : List ℕ) → sessionOf (called img ses cmd buf .session) ≡ step img (sessionOf ses) cmd buf .answer .session
+
+-- so are those that `malquindo_open` leaves in a buffer that takes a session
+abbrev pub Opening-bytes : Type 0
+Opening-bytes = (rights ses : List ℕ) → 25 ≤ length ses → sessionOf (openSession rights ses) ≡ opening rights .session
+
+-- its result is "refusal · 2^32 + length · 2^16 + status", and length and status have room in their 16 bits
+pub record Whole (result : ℕ) (a : Answer) : Type 0 where
+  pub length-small : a .length < 65536
+  pub status-small : a .status < 65536
+  pub sum : result ≡ numberOf (a .refusal) * 4294967296 + a .length * 65536 + a .status
+
+abbrev pub Result-whole : Type 0
+Result-whole = (img ses cmd buf : List ℕ) → Bytes cmd → Whole (called img ses cmd buf .result) (step img (sessionOf ses) cmd buf .answer)

@@ -1,27 +1,30 @@
 // READ RECORD: the records with some numbers, joined.
 use crate::natural::lesser;
+use crate::natural::without;
 use bodies::body;
 ghost use mathlib.Core.Path.{_≡_};
-ghost use mathlib.Core.List.{[]};
 ghost use Prim.Native.Nat.{_+_, _-_, _≤_};
 ghost use lib.ListN.{length, take};
 ghost use lib.Seq.{sets};
-ghost use lib.Dec.{leb, ltb};
+ghost use lib.Dec.{ltb};
 ghost use Rattle.base.specs.Choice.{pick};
-ghost use Rattle.bodies.specs.Body.{recordAt, walked};
+ghost use Rattle.bodies.specs.Body.{walkAt, walked};
 ghost use Rattle.replies.specs.Joined.{recordsData};
 
 // The most bytes that are returned.
 const CUT: usize = 2048;
 
-// The record whose length stands at `at`, where its number n is not below first; else no bytes.
-fn wanted(body: &[u8], at: usize, n: usize, first: usize) -> &[u8]
-    ensures { λ r. ⌜ now r ≡ pick (leb first n) (recordAt (now (body .entry)) at) [] ⌝ }
+// Where the walk over the records is behind the first n: a number says nothing of a place, so it begins at the first record.
+fn walk(body: &[u8], n: usize) -> usize
+    ensures { λ r. ⌜ r ≡ walkAt (now (body .entry)) n ⌝ }
 {
-    if first <= n {
-        return body::record_at(body, at);
+    let mut at = 2;
+    let mut passed = 0;
+    while passed < n {
+        at = body::behind(body, at);
+        passed += 1;
     }
-    base::part(body, 0, 0)
+    at
 }
 
 // Stores a record behind the first len bytes, as far as the cut allows. Answers how many bytes there are then.
@@ -35,7 +38,7 @@ fn put_cut(out: &mut [u8], len: usize, record: &[u8]) -> usize
 }
 
 // Stores the records with the numbers first to last at the start of out, one behind the other, cut at 2,048 bytes, where out has as many.
-// Answers how many bytes. The walk begins at the first record, since a number says nothing of a place.
+// Answers how many bytes. It ends with the last record, or as soon as the 2,048 bytes are there.
 pub fn put_records(body: &[u8], first: usize, last: usize, out: &mut [u8]) -> usize
     ensures { λ r. ⌜ (r ≡ pick (ltb (length (now (out .entry))) 2048) 0 (length (recordsData (walked (now (body .entry))) first last))) × (now (out .exit) ≡ pick (ltb (length (now (out .entry))) 2048) (now (out .entry)) (sets (now (out .entry)) 0 (recordsData (walked (now (body .entry))) first last))) ⌝ }
 {
@@ -43,11 +46,14 @@ pub fn put_records(body: &[u8], first: usize, last: usize, out: &mut [u8]) -> us
         return 0;
     }
     let end = lesser(last, body::count(body));
-    let mut at = 2;
-    let mut n = 0;
+    let mut n = lesser(without(first, 1), end);
+    let mut at = walk(body, n);
     let mut len = 0;
     while n < end {
-        len = put_cut(out, len, wanted(body, at, n + 1, first));
+        if CUT <= len {
+            return len;
+        }
+        len = put_cut(out, len, body::record_at(body, at));
         at = body::behind(body, at);
         n += 1;
     }

@@ -5,14 +5,15 @@ use mathlib.Core.Bool.{Bool, true, false, and-true, and-false}
 use mathlib.Core.List.{List, [], _∷_}
 use native.Mathlib.Omega.{arith}
 use native.Mathlib.Nat.{zero-div}
-use lib.ListN.{length, getD, set, replicate}
-use lib.Dec.{eqb}
-use borrow.Author.Tests.{le-leb, ne-eqb, eqb-true}
+use lib.ListN.{length, getD, set, replicate, length-set}
+use lib.Dec.{ltb, eqb}
+use borrow.Author.Tests.{le-leb, ltb-false, ne-eqb, eqb-true}
 use Rattle.base.specs.Choice.{pick, every}
-use Rattle.base.proofs.Cases.{pick-ind, and-left, and-right, false-true, held}
+use Rattle.base.proofs.Cases.{pick-ind, and-left, and-right, false-true, held as held-tests}
+use Rattle.base.proofs.Parts.{length-part}
 use Rattle.rights.specs.declared.Rights.{Rights}
 use Rattle.rights.specs.Rights.{bit, flagged, biometricsByte, mayRecords, mayBiometrics}
-use Rattle.rights.specs.Chain.{certificate, joinedBytes, joined, clearedBytes, cleared, noRights, effective, sameBytes, same, isCleared}
+use Rattle.rights.specs.Chain.{certificate, joinedBytes, joined, clearedBytes, cleared, noRights, effective, held, sameBytes, same, isCleared}
 use Rattle.rights.proofs.Elements.{same-refl, same-rest}
 
 -- ---- the same
@@ -30,7 +31,7 @@ same-self r = same-rest r r refl refl refl ∙ same-refl (r .biometrics)
 pub same-is : (a b : Rights) → same a b ≡ true → a ≡ b
 unfolding same
 same-is a b e =
-    let h = held _ e in
+    let h = held-tests _ e in
     λ i. record {
       flags = eqb-true (a .flags) (b .flags) (h .0) i;
       travel = eqb-true (a .travel) (b .travel) (h .1 .0) i;
@@ -102,6 +103,36 @@ effective-cleared c =
     pick-ind (λ (r : Rights). isCleared r ≡ true) (eqb (length c) 60)
     (λ e. is-cleared (joined (joined (certificate c 0) (certificate c 1)) (certificate c 2)))
     (λ e. none-cleared)
+
+-- ---- 17 biometrics bytes
+
+joined-length : (xs ys : List ℕ) (n : ℕ) → length xs ≡ n → length ys ≡ n → length (joinedBytes xs ys) ≡ n
+unfolding joinedBytes
+joined-length [] ys n e f = e
+joined-length (x ∷ xs) [] n e f = absurd (omega (arith, e, f))
+joined-length (x ∷ xs) (y ∷ ys) n e f =
+    let h = joined-length xs ys (length xs) refl (omega (arith, e, f)) in omega (arith, e, h)
+
+cleared-length : (t : Bool) (x : List ℕ) → length x ≡ 17 → length (clearedBytes t x) ≡ 17
+unfolding clearedBytes
+cleared-length true x e = length-set x 0 (getD x 0 0 % 4) ∙ e
+cleared-length false x e = refl
+
+pub effective-length : (c : List ℕ) → length (effective c .biometrics) ≡ 17
+unfolding effective cleared joined certificate noRights
+effective-length c =
+    pick-ind (λ (r : Rights). length (r .biometrics) ≡ 17) (eqb (length c) 60)
+    (λ e. let h = eqb-true (length c) 60 e in
+    cleared-length (bit _ 3) _ (joined-length _ _ 17
+    (joined-length _ _ 17 (length-part c 3 17 (omega (arith, h))) (length-part c 23 17 (omega (arith, h)))) (length-part c 43 17 (omega (arith, h)))))
+    (λ e. refl)
+
+pub held-length : (xs : List ℕ) → length (held xs .biometrics) ≡ 17
+unfolding held certificate noRights
+held-length xs =
+    pick-ind (λ (r : Rights). length (r .biometrics) ≡ 17) (ltb (length xs) 20)
+    (λ e. refl)
+    (λ e. let h = ltb-false (length xs) 20 e in length-part xs 3 17 (omega (arith, h)))
 
 -- "rights not 60 bytes": those "that 60 zero bytes open"
 pub not-sixty : (c : List ℕ) → (length c ≡ 60 → ⊥) → effective c ≡ effective (replicate 60 0)

@@ -7,13 +7,12 @@ use files::File;
 use rights::Rights;
 use store::image;
 ghost use mathlib.Core.Path.{_≡_};
-ghost use mathlib.Core.Bool.{Bool, true, false, not, _&&_};
-ghost use Prim.Native.Nat.{ℕ, _+_, _≤_, _<_};
-ghost use lib.ListN.{length};
+ghost use mathlib.Core.Bool.{true, false, not, _&&_};
+ghost use Prim.Native.Nat.{_+_, _<_};
 ghost use Rattle.rights.specs.Rights.{mayBiometrics};
 ghost use Rattle.session.specs.Session.{opened, currentId, set, currentRecord, applicationFits, isThere, recordFits, placeFits, fits};
 ghost use Rattle.session.specs.Refusals.{refusal, openRefusal};
-ghost use Rattle.session.specs.Reach.{isRecords, suits, appends, writes, isCertificates, activated, permitted, reachFile, reachPlace, reach};
+ghost use Rattle.session.specs.Reach.{isRecords, suits, appends, writes, activated, permitted, reachFile, reachPlace, reach};
 
 // The current place: none, a file, or a file and record.
 pub enum Place {

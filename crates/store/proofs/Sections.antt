@@ -11,7 +11,7 @@ use Rattle.base.specs.Choice.{every}
 use Rattle.base.specs.Bytes.{part}
 use Rattle.base.proofs.Cases.{held}
 use Rattle.bodies.specs.Rules.{kindOk}
-use Rattle.store.specs.Image.{lenAt, kindAt, bodyAt, endAt, choose, findFrom, find, present, applicationOf, sectionOk, sectionsOk, wellFormed}
+use Rattle.store.specs.Image.{lenAt, kindAt, bodyAt, endAt, choose, findFrom, find, present, applicationOf, presentBehind, sectionOk, sectionsOk, wellFormed}
 use Rattle.store.specs.declared.image.Found.the-variants.{At, Missing}
 
 -- ---- looking for a kind
@@ -89,10 +89,10 @@ module _ (img : List ℕ) (p last : ℕ) where
     unfolding sectionOk every
     section-body e = simp (same-body ∙ e, and-false)
 
-    pub section-rest : p + 6 + l ≤ length img → last < j → kindOk j b ≡ true → (a : ℕ) → a ≡ applicationOf j → sectionOk img p last ≡ present img a
+    pub section-rest : p + 6 + l ≤ length img → last < j → kindOk j b ≡ true → sectionOk img p last ≡ present img (applicationOf j)
     unfolding sectionOk every
-    section-rest h i e a ea =
-        simp (le-leb (endAt img p) (length img) (omega arith), lt-ltb last (kindAt img p) (omega arith), same-body ∙ e, ← ej, ← ea, and-true)
+    section-rest h i e =
+        simp (le-leb (endAt img p) (length img) (omega arith), lt-ltb last (kindAt img p) (omega arith), same-body ∙ e, ← ej, and-true)
 
 -- ---- all of them
 
@@ -100,11 +100,12 @@ pub record Walking (img : List ℕ) (p last : ℕ) : Type 0 where
   pub fuel : ℕ
   pub enough : length img ≤ p + fuel
   pub same : wellFormed img ≡ sectionsOk fuel img p last
+  pub beside : presentBehind img last
 
 pub walk-start : (img : List ℕ) → length img ≤ 262144 → Walking img 0 0
 unfolding wellFormed every
 walk-start img h =
-    record { fuel = length img; enough = omega arith; same = simp (le-leb _ _ h, and-true) }
+    record { fuel = length img; enough = omega arith; same = simp (le-leb _ _ h, and-true); beside = λ e. absurd (e refl) }
 
 pub walk-long : (img : List ℕ) → 262144 < length img → false ≡ wellFormed img
 unfolding wellFormed every
@@ -138,4 +139,5 @@ module _ (img : List ℕ) (p last : ℕ) (w : Walking img p last) where
       fuel = pass .0;
       enough = omega (arith, pass .1);
       same = w .same ∙ pass .2 ∙ ap (λ (b : Bool). b && sectionsOk (pass .0) img (endAt img p) (kindAt img p)) e;
+      beside = λ _. section-facts img p last e .beside;
     })

@@ -1,6 +1,7 @@
 -- "At most 262,144 bytes: sections up to the exact end, perhaps none. A section is a 4-byte little-endian body length L, a 2-byte
 -- little-endian kind, then L bytes. Kinds strictly increase."
 use Prim.Native.Nat.{ℕ, zero, suc, _+_}
+use mathlib.Core.Path.{_≡_}
 use mathlib.Core.Bool.{Bool, true, false, not, _&&_, _||_}
 use mathlib.Core.List.{List, [], _∷_}
 use lib.ListN.{length}
@@ -67,6 +68,10 @@ present img a = every (leb travel a ∷ leb a biometrics ∷ allRules (there img
 -- the application whose section kind k is: 01xx travel, 02xx visa, 031A and 04xx biometrics
 unfoldable pub applicationOf : ℕ → ℕ
 applicationOf k = pick (ltb k 0x0200) travel (pick (ltb k 0x0300) visa biometrics)
+
+-- the application of the section before, of kind `last`, is present; `last` is 0 where there is none before
+abbrev pub presentBehind : List ℕ → ℕ → Type 0
+presentBehind img last = (last ≡ 0 → ⊥) → present img (applicationOf last) ≡ true
 
 -- the section at p is right behind one of kind `last`: whole, of a greater kind that is known, its body one of that kind; and, since
 -- "Travel has all of 0101, 0102, 011A or none; visa both or neither; 04xx needs 031A", its application is present

@@ -15,7 +15,7 @@ ghost use Prim.Native.Nat.{_+_, _≤_, _<_};
 ghost use lib.ListN.{length};
 ghost use Rattle.bodies.specs.Body.{takes};
 ghost use Rattle.bodies.specs.Biometrics.{bioOk, takes as takesAt};
-ghost use Rattle.store.specs.Image.{find, has, body, there, present, applicationOf, sectionOk, wellFormed, appendTo, updateIn, activateIn};
+ghost use Rattle.store.specs.Image.{find, has, body, there, present, applicationOf, presentBehind, sectionOk, wellFormed, appendTo, updateIn, activateIn};
 
 // Where a section's body begins, and its length.
 pub enum Found {
@@ -107,9 +107,24 @@ fn application_of(kind: usize) -> usize
     BIOMETRICS
 }
 
+// Whether the application of a kind is present, behind a section of kind `last`, whose application is; `last` is 0 where there is none
+// before. So the image is searched for an application only at its first section.
+fn beside(image: &[u8], last: usize, kind: usize) -> bool
+    requires { ⌜ presentBehind (now image) last ⌝ }
+    ensures { λ r. ⌜ r ≡ present (now (image .entry)) (applicationOf kind) ⌝ }
+{
+    let application = application_of(kind);
+    if last != 0 {
+        if application_of(last) == application {
+            return true;
+        }
+    }
+    present(image, application)
+}
+
 // Whether the section at `at` is right, behind one of kind `last`.
 fn section_ok(image: &[u8], at: usize, last: usize) -> bool
-    requires { ⌜ at ≤ length (now image) ⌝ }
+    requires { ⌜ (at ≤ length (now image)) × presentBehind (now image) last ⌝ }
     ensures { λ r. ⌜ r ≡ sectionOk (now (image .entry)) at last ⌝ }
 {
     if image.len() - at < 6 {
@@ -126,7 +141,7 @@ fn section_ok(image: &[u8], at: usize, last: usize) -> bool
     if !kind_ok(kind, base::part(image, at + 6, len)) {
         return false;
     }
-    present(image, application_of(kind))
+    beside(image, last, kind)
 }
 
 // Whether an image is as document 01 says.

@@ -13,8 +13,8 @@ use borrow.Author.Count.{below-more}
 use borrow.Author.Tests.{eq-eqb, ltb-true, ltb-false}
 use Rattle.base.proofs.Cases.{by-cases}
 use Rattle.window.specs.Window.{begins, occursIn}
-use Rattle.window.specs.Seeking.{Sought, Stand, Ran, Least, Filled}
-use Rattle.window.proofs.Occurring.{begins-split, occurs-short, occurs-here, skip-to, skip-sought}
+use Rattle.window.specs.Seeking.{Stand, Clear, Sought, Ran, Least, Filled}
+use Rattle.window.proofs.Occurring.{begins-split, occurs-short, occurs-here, skip-to}
 
 -- ---- bytes that stand at a place
 
@@ -47,18 +47,22 @@ filled-more t table k v h f l q a b =
     (λ z. rw (getD-set-other table (k + 1) q v 0 (λ e. omega arith)) (f q a (omega arith)))
     (eq-or-lt-of-le b)
 
+-- one byte can be moved by one place alone
+pub least-one : (t : List ℕ) (q : ℕ) → 1 ≤ q → q ≤ 1 → Least t q 1
+least-one t q a b = record {
+  low = le-refl _;
+  high = a;
+  stands = λ i j. absurd (omega arith);
+  least = λ d x y s. absurd (omega arith);
+}
+
 pub built-start : (t : List ℕ) (end : ℕ) → 1 ≤ end → Built t (replicate 930 1) end 1 0
 built-start t end h = record {
   first = omega arith;
   within = omega arith;
   stands = λ i j. absurd (omega arith);
   none = λ d x y b. absurd (omega arith);
-  filled = λ q a b. let e = getD-replicate {A = ℕ} 930 q 1 0 (omega arith) in rw e (record {
-    low = omega arith;
-    high = a;
-    stands = λ i j. absurd (omega arith);
-    least = λ d x y s. absurd (omega arith);
-  });
+  filled = λ q a b. let e = getD-replicate {A = ℕ} 930 q 1 0 (omega arith) in rw e (least-one t q a (omega arith));
 }
 
 pub built-least : (t table : List ℕ) (end p q : ℕ) → Built t table end p q → (q ≡ 0 → ⊥) → Least t q (getD table q 0)
@@ -146,12 +150,17 @@ stand-list (x ∷ t) (y ∷ l) h a = simp (eq-eqb y x (a 0 (omega arith))) (stan
 stand-begins : (t w : List ℕ) (k : ℕ) → k + length t ≤ length w → Stand w t k (length t) → begins t (drop k w) ≡ true
 stand-begins t w k h a = stand-list t (drop k w) (simp length-drop (omega arith)) (λ i j. getD-drop k w i 0 ∙ a i j)
 
--- p is the place that is tried: q bytes stand there, and at no place before it the whole string
-pub record Trying (w t : List ℕ) (last p q : ℕ) : Type 0 where
+-- where the string stands at no place from `from` on before r, it occurs from r on if it occurs from there on
+skip-clear : (w t : List ℕ) (from r : ℕ) → from ≤ r → Clear w t from r → occursIn t (drop r w) ≡ occursIn t (drop from w)
+skip-clear w t from r h f =
+    skip-to t w from r h (λ k a b. by-cases (begins t (drop k w)) (λ e. absurd (f .none k a b (begins-stand t w k e))) (λ e. e))
+
+-- p is the place that is tried: q bytes stand there, and at no place from `from` on before it the whole string
+pub record Trying (w t : List ℕ) (from p q : ℕ) : Type 0 where
   pub low : 1 ≤ q
   pub high : q ≤ length t
-  pub stands : p ≤ last → Stand w t p q
-  pub same : occursIn t (drop p w) ≡ occursIn t w
+  pub stands : p + length t ≤ length w → Stand w t p q
+  pub same : occursIn t (drop p w) ≡ occursIn t (drop from w)
 
 pub try-less : (last p s r : ℕ) → 1 ≤ s → p + s ≤ r → p ≤ last → last + 1 - r < last + 1 - p
 try-less last p s r h k l = omega arith
@@ -160,41 +169,42 @@ stand-one : (w t : List ℕ) (p : ℕ) → getD w p 0 ≡ getD t 0 0 → Stand w
 stand-one w t p e zero j = ap (λ (x : ℕ). getD w x 0) (add-zero p) ∙ e
 stand-one w t p e (suc i) j = absurd (omega arith)
 
--- a place with the first byte was sought
-pub try-sought : (w t : List ℕ) (from last p : ℕ) → 0 < length t → Sought w from last (getD t 0 0) p → occursIn t (drop from w) ≡ occursIn t w
-    → Trying w t last p 1
-try-sought w t from last p h s e = record {
-  low = le-refl _;
-  high = h;
-  stands = λ z. stand-one w t p (s .found z);
-  same = skip-sought t w from p h (s .low) (s .none) ∙ e;
-}
-
--- too few bytes are left for the string
-pub try-none : (w t : List ℕ) (last p q : ℕ) → Trying w t last p q → length w < p + length t → 0 < length t → false ≡ occursIn t w
-try-none w t last p q y h k = sym (occurs-short t (drop p w) (simp length-drop (omega arith))) ∙ y .same
-
--- all of its bytes stand
-pub try-found : (w t : List ℕ) (last p q r : ℕ) → Trying w t last p q → Ran w t p q r → r ≡ length t → p + length t ≤ length w → true ≡ occursIn t w
-try-found w t last p q r y a e h = sym (occurs-here t (drop p w) (stand-begins t w p h (subst (Stand w t p) e (a .stands)))) ∙ y .same
-
--- the string does not stand where only r of its bytes do: the place moves on as far as c of these allow
-module _ (w t : List ℕ) (last p q r c s : ℕ) (y : Trying w t last p q) (a : Ran w t p q r) (m : r < length t) (h : c ≤ r) (l : Least t c s) where
-  pub try-same : occursIn t (drop (p + s) w) ≡ occursIn t w
-  try-same =
-      skip-to t w p (p + s) (omega arith) (λ k x z. by-cases (begins t (drop k w)) (λ e.
-      let b = begins-stand t w k e in
-      absurd (⊎-elim
-      (λ f. a .stops m (ap (λ (x : ℕ). getD w (x + r) 0) f ∙ b r m))
-      (λ f. not-between w t p r c s (a .stands) h l k (length t) f z (omega arith) b)
-      (eq-or-lt-of-le x)))
-      (λ e. e))
-      ∙ y .same
-
-  pub try-moved : (c - s ≡ 0 → ⊥) → Trying w t last (p + s) (c - s)
-  try-moved z = record {
-    low = omega arith;
-    high = omega arith;
-    stands = λ x. moved w t p r c s (a .stands) h l;
-    same = try-same;
+module _ (w t : List ℕ) (from p : ℕ) where
+  -- a place with the first byte was sought
+  pub try-sought : (start : ℕ) → 0 < length t → Sought w t start p → occursIn t (drop start w) ≡ occursIn t (drop from w) → Trying w t from p 1
+  try-sought start h s e = record {
+    low = le-refl _;
+    high = h;
+    stands = λ z. stand-one w t p (s .found z);
+    same = skip-clear w t start p (s .low) (s .clear) ∙ e;
   }
+
+  module _ (q : ℕ) (y : Trying w t from p q) where
+    -- too few bytes are left for the string
+    pub try-none : length w < p + length t → 0 < length t → false ≡ occursIn t (drop from w)
+    try-none h k = sym (occurs-short t (drop p w) (simp length-drop (omega arith))) ∙ y .same
+
+    module _ {k r : ℕ} (a : Ran w t p k r) where
+      -- all of its bytes stand
+      pub try-found : r ≡ length t → p + length t ≤ length w → true ≡ occursIn t (drop from w)
+      try-found e h = sym (occurs-here t (drop p w) (stand-begins t w p h (subst (Stand w t p) e (a .stands)))) ∙ y .same
+
+      -- the string does not stand where only r of its bytes do: the place moves on as far as c of these allow
+      module _ (c s : ℕ) (m : r < length t) (h : c ≤ r) (l : Least t c s) where
+        pub try-same : occursIn t (drop (p + s) w) ≡ occursIn t (drop from w)
+        try-same =
+            skip-clear w t p (p + s) (omega arith) (record {
+              none = λ k x z b. ⊎-elim
+                  (λ f. a .stops m (ap (λ (x : ℕ). getD w (x + r) 0) f ∙ b r m))
+                  (λ f. not-between w t p r c s (a .stands) h l k (length t) f z (omega arith) b)
+                  (eq-or-lt-of-le x);
+            })
+            ∙ y .same
+
+        pub try-moved : (c - s ≡ 0 → ⊥) → Trying w t from (p + s) (c - s)
+        try-moved z = record {
+          low = omega arith;
+          high = omega arith;
+          stands = λ x. moved w t p r c s (a .stands) h l;
+          same = try-same;
+        }

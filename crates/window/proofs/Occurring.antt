@@ -5,10 +5,10 @@ use mathlib.Core.List.{List, [], _∷_, _++_}
 use mathlib.Core.Bool.{true, false}
 use native.Mathlib.Omega.{arith}
 use native.Mathlib.Nat.{add-zero}
-use lib.ListN.{length, drop, getD}
-use lib.Seq.{drop-drop, getD-drop}
+use lib.ListN.{length, drop}
+use lib.Seq.{drop-drop}
 use lib.Dec.{eqb}
-use borrow.Author.Tests.{eq-eqb, ne-eqb, eqb-true}
+use borrow.Author.Tests.{eq-eqb, eqb-true}
 use Rattle.base.proofs.Cases.{by-cases, false-true}
 use Rattle.window.specs.Window.{begins, occursIn, windowOf, matchesIn}
 
@@ -56,17 +56,6 @@ pub skip-to : (t w : List ℕ) (j r : ℕ) → j ≤ r → ((k : ℕ) → j ≤ 
 skip-to t w j r q h =
     let e : j + (r - j) ≡ r = omega arith in
     ap (λ (x : ℕ). occursIn t (drop x w)) (sym e) ∙ skip t w (r - j) j (λ k a b. h k a (omega arith))
-
-begins-not : (t l : List ℕ) → 0 < length t → (getD l 0 0 ≡ getD t 0 0 → ⊥) → begins t l ≡ false
-unfolding begins
-begins-not [] l p h = absurd (omega arith)
-begins-not (a ∷ t) [] p h = refl
-begins-not (a ∷ t) (b ∷ l) p h = simp (ne-eqb b a h)
-
--- none of the places has the string's first byte
-pub skip-sought : (t w : List ℕ) (j r : ℕ) → 0 < length t → j ≤ r → ((k : ℕ) → j ≤ k → k < r → getD w k 0 ≡ getD t 0 0 → ⊥) → occursIn t (drop r w) ≡ occursIn t (drop j w)
-skip-sought t w j r p q h =
-    skip-to t w j r q (λ k a b. begins-not t (drop k w) p (λ e. h k a b (ap (λ (x : ℕ). getD w x 0) (sym (add-zero k)) ∙ sym (getD-drop k w 0 0) ∙ e)))
 
 -- ---- something, the string, and something
 

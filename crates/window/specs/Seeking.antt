@@ -1,22 +1,28 @@
 -- What the search for a string keeps track of, for the contracts of its parts.
 use Prim.Native.Nat.{ℕ, _+_, _-_, _≤_, _<_}
 use mathlib.Core.Path.{_≡_}
+use mathlib.Core.Bool.{Bool, true, false}
 use mathlib.Core.List.{List}
 use lib.ListN.{length, getD}
-
--- w has no b from `from` on up to a place before r
-abbrev pub Clear : List ℕ → ℕ → ℕ → ℕ → Type 0
-Clear w b from r = (k : ℕ) → from ≤ k → k < r → getD w k 0 ≡ b → ⊥
-
--- r is the first place from `from` up to last where w has b, or one above last
-pub record Sought (w : List ℕ) (from last b r : ℕ) : Type 0 where
-  pub low : from ≤ r
-  pub none : Clear w b from r
-  pub found : r ≤ last → getD w r 0 ≡ b
 
 -- the first k bytes of t stand in w from p on
 abbrev pub Stand : List ℕ → List ℕ → ℕ → ℕ → Type 0
 Stand w t p k = (i : ℕ) → i < k → getD w (p + i) 0 ≡ getD t i 0
+
+-- r says whether t may stand in w at p, by some of its bytes, the first among them
+pub record Likely (w t : List ℕ) (p : ℕ) (r : Bool) : Type 0 where
+  pub first : r ≡ true → getD w p 0 ≡ getD t 0 0
+  pub never : r ≡ false → Stand w t p (length t) → ⊥
+
+-- t stands in w at no place from `from` on before r
+pub record Clear (w t : List ℕ) (from r : ℕ) : Type 0 where
+  pub none : (k : ℕ) → from ≤ k → k < r → Stand w t k (length t) → ⊥
+
+-- r is past the places at which t does not stand; there, where enough bytes are left, its first byte stands
+pub record Sought (w t : List ℕ) (from r : ℕ) : Type 0 where
+  pub low : from ≤ r
+  pub clear : Clear w t from r
+  pub found : r + length t ≤ length w → getD w r 0 ≡ getD t 0 0
 
 -- of t the first r bytes, at least q, stand in w from p on, and not one more
 pub record Ran (w t : List ℕ) (p q r : ℕ) : Type 0 where

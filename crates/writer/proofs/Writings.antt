@@ -7,14 +7,14 @@ use native.Mathlib.Omega.{arith}
 use native.Mathlib.Numerals.{add-one}
 use native.Mathlib.Nat.{add-zero}
 use lib.ListN.{length, drop, set, length-append}
-use lib.Seq.{sets, set-comm, length-sets}
+use lib.Seq.{sets, set-comm}
 use lib.Dec.{ltb}
 use borrow.Author.Tests.{lt-ltb, le-ltb, ltb-true, leb-true}
 use Rattle.base.specs.Choice.{pick}
 use Rattle.base.specs.Bytes.{part, fits, put}
 use Rattle.base.proofs.Parts.{rest}
 use Rattle.base.proofs.Cases.{by-cases, pick-ind}
-use Rattle.base.proofs.Runs.{sets-snoc, sets-append, fits-yes, fits-no, put-yes, put-no}
+use Rattle.base.proofs.Runs.{sets-snoc, fits-yes, fits-no, put-yes, put-no, put-behind}
 use Rattle.writer.specs.Number.{digits, bytesOf, shortest}
 use Rattle.writer.specs.Writing.{lengthBytes, tagBytes, tlv}
 use Rattle.writer.specs.Writer.{headBytes, after}
@@ -97,16 +97,6 @@ unfolding headBytes
 no-length tag len p = by-cases (ltb tag 0x10000) (λ e. simp (e, le-ltb len 0x10000 p)) (λ e. simp e)
 
 -- ---- an object, written by its head and its value
-
--- a run behind a run is the run of both
-pub put-behind : (out : List ℕ) (at : ℕ) (a b : List ℕ) → at + length (a ++ b) ≤ length out → put (put out at a) (at + length a) b ≡ put out at (a ++ b)
-put-behind out at a b h =
-    let l = length-append a b in
-    let p : put out at a ≡ sets out at a = put-yes out at a (omega arith) in
-    ap (λ (x : List ℕ). put x (at + length a) b) p
-    ∙ put-yes (sets out at a) (at + length a) b (omega (arith, length-sets out at a))
-    ∙ sym (sets-append out at a b)
-    ∙ sym (put-yes out at (a ++ b) h)
 
 -- a head and the value's bytes behind it are the object
 pub head-value : (tag : ℕ) (v : List ℕ) → tag < 0x10000 → length v < 0x10000 → headBytes tag (length v) ++ v ≡ tlv tag v

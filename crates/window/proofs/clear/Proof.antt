@@ -1,74 +1,56 @@
--- `window::clear` meets its contract.
-use Rattle.window.proofs.Clearing.{clear-eight}
-use borrow.Author.Needs.{needs}
+-- At none of the places that were looked at the string stands.
+use Prim.Native.Nat.{_+_, _-_, _≤_}
+use native.Mathlib.Omega.{arith}
+use mathlib.Core.Path.{_≡_}
+use mathlib.Core.Bool.{true, not}
+use borrow.Author.Tests.{not-true}
+use Rattle.base.proofs.Cases.{and-left, and-right}
+use Rattle.window.specs.Seeking.{Clear}
+use Rattle.window.proofs.Clearing.{clear-none, clear-more}
 use Rattle.window.proofs.clear.Statement.{statement}
 use Rattle.window.proofs.clear.Tie as tie
 
-shared-slice-read-low : tie.Need-shared-slice-read-low
-shared-slice-read-low c = search needs
+abbrev Inv-loop : tie.InvT-loop
+Inv-loop w p text y none₀ i₀ none i = (i ≤ 16) × (none ≡ true → Clear w text p (p + i))
 
-add-low : tie.Need-add-low
-add-low c = search needs
+abbrev μ-loop : tie.MeasureT-loop
+μ-loop w p text y none₀ i₀ none i = 16 - i
 
-shared-slice-read-low-2 : tie.Need-shared-slice-read-low-2
-shared-slice-read-low-2 c = search needs
+loop-holds : tie.Need-loop-holds Inv-loop μ-loop
+loop-holds c = (omega arith, λ e. clear-none (omega arith))
 
-add-low-2 : tie.Need-add-low-2
-add-low-2 c = search needs
+add-likely : tie.Need-add-likely Inv-loop μ-loop
+add-likely c = omega arith
 
-shared-slice-read-low-3 : tie.Need-shared-slice-read-low-3
-shared-slice-read-low-3 c = search needs
+likely-requires : tie.Need-likely-requires Inv-loop μ-loop
+likely-requires c κs = omega arith
 
-add-low-3 : tie.Need-add-low-3
-add-low-3 c = search needs
+add-i : tie.Need-add-i Inv-loop μ-loop
+add-i c = omega arith
 
-shared-slice-read-low-4 : tie.Need-shared-slice-read-low-4
-shared-slice-read-low-4 c = search needs
+loop-less : tie.Need-loop-less Inv-loop μ-loop
+loop-less c = omega arith
 
-add-high : tie.Need-add-high
-add-high c = search needs
+loop-again : tie.Need-loop-again Inv-loop μ-loop
+loop-again c =
+    let l = c .before .before .loop in
+    let r = c .likely in
+    let n = not (r .result) in
+    (omega arith, λ e. clear-more (omega arith) (l .inv .1 (and-left (l .none) n e)) (r .ensures .never (not-true (r .result) (and-right (l .none) n e))))
 
-shared-slice-read-high : tie.Need-shared-slice-read-high
-shared-slice-read-high c = search needs
-
-add-high-2 : tie.Need-add-high-2
-add-high-2 c = search needs
-
-shared-slice-read-high-2 : tie.Need-shared-slice-read-high-2
-shared-slice-read-high-2 c = search needs
-
-add-high-3 : tie.Need-add-high-3
-add-high-3 c = search needs
-
-shared-slice-read-high-3 : tie.Need-shared-slice-read-high-3
-shared-slice-read-high-3 c = search needs
-
-add-high-4 : tie.Need-add-high-4
-add-high-4 c = search needs
-
-shared-slice-read-high-4 : tie.Need-shared-slice-read-high-4
-shared-slice-read-high-4 c = search needs
-
-returns : tie.Need-returns
-returns c = let a = c .before .before .before .before .before .before .before .before .args in clear-eight (a .w .now) (a .b) (a .j)
+returns : tie.Need-returns Inv-loop μ-loop
+returns c = let i = c .before .loop .inv in λ e. record { none = λ k a b. i .1 e .none k a (omega arith) }
 
 pub clear-spec : {M : Type 1} → statement M
 clear-spec =
     tie.close
     (tie.spec
-    shared-slice-read-low
-    add-low
-    shared-slice-read-low-2
-    add-low-2
-    shared-slice-read-low-3
-    add-low-3
-    shared-slice-read-low-4
-    add-high
-    shared-slice-read-high
-    add-high-2
-    shared-slice-read-high-2
-    add-high-3
-    shared-slice-read-high-3
-    add-high-4
-    shared-slice-read-high-4
+    Inv-loop
+    μ-loop
+    loop-holds
+    add-likely
+    likely-requires
+    add-i
+    loop-less
+    loop-again
     returns)

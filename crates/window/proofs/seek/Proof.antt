@@ -1,19 +1,20 @@
--- No place before the one that is reached has the byte.
-use Prim.Native.Nat.{ℕ, _≤_, _-_, _+_}
+-- At none of the places before the one that is reached the string stands.
+use Prim.Native.Nat.{_≤_, _-_, _+_}
 use native.Mathlib.Omega.{arith}
-use native.Mathlib.Nat.{eq-or-lt-of-le}
-use mathlib.Core.Logic.{⊎-elim}
-use mathlib.Core.Path.{_≡_, subst}
-use lib.ListN.{getD}
+use mathlib.Core.Path.{refl}
 use Rattle.window.specs.Seeking.{Clear}
+use Rattle.window.proofs.Clearing.{clear-more}
 use Rattle.window.proofs.seek.Statement.{statement}
 use Rattle.window.proofs.seek.Tie as tie
 
 abbrev Inv-loop : tie.InvT-loop
-Inv-loop w from last b j₀ j = (from ≤ j) × Clear w b from j
+Inv-loop w from text y last p₀ p = (from ≤ p) × Clear w text from p
 
 abbrev μ-loop : tie.MeasureT-loop
-μ-loop w from last b j₀ j = last + 1 - j
+μ-loop w from text y last p₀ p = last + 1 - p
+
+sub-last : tie.Need-sub-last Inv-loop μ-loop
+sub-last c = omega arith
 
 skip-requires : tie.Need-skip-requires Inv-loop μ-loop
 skip-requires c κs = omega arith
@@ -21,31 +22,27 @@ skip-requires c κs = omega arith
 loop-holds : tie.Need-loop-holds Inv-loop μ-loop
 loop-holds c = c .skip .ensures
 
-shared-slice-read-if1 : tie.Need-shared-slice-read-if1 Inv-loop μ-loop
-shared-slice-read-if1 c = omega arith
+likely-requires : tie.Need-likely-requires Inv-loop μ-loop
+likely-requires c κs = omega arith
 
 returns : tie.Need-returns Inv-loop μ-loop
-returns c = let i = c .before .before .before .loop .inv in record { low = i .0; none = i .1; found = λ h. c .if1 .taken }
+returns c =
+    let i = c .before .before .before .loop .inv in
+    record { low = i .0; clear = i .1; found = λ h. c .before .likely .ensures .first (c .if1 .taken) }
 
-add-j : tie.Need-add-j Inv-loop μ-loop
-add-j c = omega arith
+add-p : tie.Need-add-p Inv-loop μ-loop
+add-p c = omega arith
 
 loop-less : tie.Need-loop-less Inv-loop μ-loop
 loop-less c = omega arith
 
 loop-again : tie.Need-loop-again Inv-loop μ-loop
 loop-again c =
-    let l = c .before .before .before .loop in
-    let a = c .before .before .before .before .before .before .args in (
-      omega arith,
-      λ k p q e. ⊎-elim
-          (λ z. c .if1 .left (subst (λ (x : ℕ). getD (a .w .now) x 0 ≡ a .b) z e))
-          (λ z. l .inv .1 k p z e)
-          (eq-or-lt-of-le {n = k} {m = l .j} (omega arith)),
-    )
+    let i = c .before .before .before .loop .inv in
+    (omega arith, clear-more refl (i .1) (c .before .likely .ensures .never (c .if1 .left)))
 
 returns-2 : tie.Need-returns-2 Inv-loop μ-loop
-returns-2 c = let i = c .before .loop .inv in record { low = i .0; none = i .1; found = λ h. absurd (omega arith) }
+returns-2 c = let i = c .before .loop .inv in record { low = i .0; clear = i .1; found = λ h. absurd (omega arith) }
 
 pub seek-spec : {M : Type 1} → statement M
 seek-spec =
@@ -53,11 +50,12 @@ seek-spec =
     (tie.spec
     Inv-loop
     μ-loop
+    sub-last
     skip-requires
     loop-holds
-    shared-slice-read-if1
+    likely-requires
     returns
-    add-j
+    add-p
     loop-less
     loop-again
     returns-2)

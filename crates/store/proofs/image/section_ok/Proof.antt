@@ -46,16 +46,13 @@ kind-ok-requires c κs = search needs
 returns-4 : tie.Need-returns-4
 returns-4 c = sym (section-body _ _ _ _ _ (c .before .before .before .before .before .before .read32 .ensures .0) (c .before .before .before .before .read16 .ensures .0) _ (c .before .before .part .ensures) (flag-no (c .before .kind-ok .ensures) (c .if4 .taken)))
 
-application-of-requires : tie.Need-application-of-requires
-application-of-requires c κs = search needs
-
-present-requires : tie.Need-present-requires
-present-requires c κs = search needs
+beside-requires : tie.Need-beside-requires
+beside-requires c κs = search needs
 
 returns-5 : tie.Need-returns-5
 returns-5 c =
-    c .present .ensures
-    ∙ sym (section-rest _ _ _ _ _ (c .before .before .before .before .before .before .before .before .read32 .ensures .0) (c .before .before .before .before .before .before .read16 .ensures .0) _ (c .before .before .before .before .part .ensures) (omega arith) (omega arith) (flag-yes (c .before .before .before .kind-ok .ensures) (c .before .before .if4 .left)) _ (c .before .application-of .ensures))
+    c .beside .ensures
+    ∙ sym (section-rest _ _ _ _ _ (c .before .before .before .before .before .before .before .read32 .ensures .0) (c .before .before .before .before .before .read16 .ensures .0) _ (c .before .before .before .part .ensures) (omega arith) (omega arith) (flag-yes (c .before .before .kind-ok .ensures) (c .before .if4 .left)))
 
 pub section-ok-spec : {M : Type 1} → statement M
 section-ok-spec =
@@ -74,6 +71,5 @@ section-ok-spec =
     part-requires
     kind-ok-requires
     returns-4
-    application-of-requires
-    present-requires
+    beside-requires
     returns-5)

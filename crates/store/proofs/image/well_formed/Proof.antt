@@ -26,7 +26,7 @@ loop-holds : tie.Need-loop-holds Inv-loop μ-loop
 loop-holds c = (walk-start _ (c .if1 .left), omega arith)
 
 section-ok-requires : tie.Need-section-ok-requires Inv-loop μ-loop
-section-ok-requires c κs = omega arith
+section-ok-requires c κs = (omega arith, c .before .loop .inv .0 .beside)
 
 returns-2 : tie.Need-returns-2 Inv-loop μ-loop
 returns-2 c = walk-bad _ _ _ (c .before .before .before .loop .inv .0) (c .before .before .loop-test .taken) (flag-no (c .before .section-ok .ensures) (c .if2 .taken))
