@@ -1,18 +1,23 @@
-//! Links the proved library's archive, and has it made where it is missing.
+//! Links the proved library's archive, and has it made where it is missing or older than the code.
 
 use std::env;
 use std::path::{Path, PathBuf};
 use std::process::Command;
+use std::time::SystemTime;
 
 /// Where the archive lies, from the repository's root.
 const ARCHIVE_DIR: &str = "target/staticlib";
 const ARCHIVE: &str = "libmalquindo.a";
+/// Where the code that it is made of lies, and how its files end.
+const CODE_DIR: &str = "crates";
+const CODE: &str = "rt";
 
 fn main() {
     let root = repository_root();
     let dir = root.join(ARCHIVE_DIR);
     let archive = dir.join(ARCHIVE);
-    if !archive.is_file() {
+    let code = root.join(CODE_DIR);
+    if changed(&archive) < newest(&code) {
         make_archive(&root);
     }
     assert!(
@@ -21,6 +26,7 @@ fn main() {
     );
     println!("cargo:rerun-if-changed=build.rs");
     println!("cargo:rerun-if-changed={}", archive.display());
+    println!("cargo:rerun-if-changed={}", code.display());
     println!("cargo:rustc-link-search=native={}", dir.display());
     println!("cargo:rustc-link-lib=static=malquindo");
 }
@@ -29,6 +35,30 @@ fn main() {
 fn repository_root() -> PathBuf {
     let crate_dir = env::var_os("CARGO_MANIFEST_DIR").expect("cargo tells a crate's folder");
     Path::new(&crate_dir).join("../..")
+}
+
+/// When a file was last changed; for one that is not there, before all others.
+fn changed(file: &Path) -> SystemTime {
+    file.metadata()
+        .and_then(|about| about.modified())
+        .unwrap_or(SystemTime::UNIX_EPOCH)
+}
+
+/// When the newest file of code in a folder was changed. A folder that cannot be read has none.
+fn newest(dir: &Path) -> SystemTime {
+    let Ok(entries) = dir.read_dir() else {
+        return SystemTime::UNIX_EPOCH;
+    };
+    entries
+        .flatten()
+        .map(|entry| entry.path())
+        .map(|path| match path.extension() {
+            _ if path.is_dir() => newest(&path),
+            Some(end) if end == CODE => changed(&path),
+            _ => SystemTime::UNIX_EPOCH,
+        })
+        .max()
+        .unwrap_or(SystemTime::UNIX_EPOCH)
 }
 
 fn make_archive(root: &Path) {

@@ -1,4 +1,6 @@
 // Bytes that are lent: one read, a run of them stored. Every place and every length is allowed.
+pub mod natural;
+
 ghost use mathlib.Core.Path.{_≡_};
 ghost use Prim.Native.Nat.{_+_, _≤_, _<_};
 ghost use lib.ListN.{length, getD};

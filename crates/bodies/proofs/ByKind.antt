@@ -5,7 +5,7 @@ use mathlib.Core.Bool.{false, _&&_, and-false}
 use mathlib.Core.List.{List}
 use borrow.Author.Tests.{lt-leb, le-leb}
 use Rattle.base.specs.Choice.{every}
-use Rattle.bodies.specs.Body.{bodyOk}
+use Rattle.records.specs.Body.{bodyOk}
 use Rattle.bodies.specs.Biometrics.{bioOk}
 use Rattle.bodies.specs.Rules.{ruleOf, isBiometrics, kindOkBy, kindOk}
 use Rattle.bodies.specs.declared.rules.Key.the-variants.{Kind}

@@ -1,7 +1,4 @@
--- Laws of bodies, by what they are about. Crates above `store` cite those that `store`'s Laws repeat.
-pub mod Numbers
-pub mod Bodies
-pub mod Appending
+-- Laws of biometrics bodies and the rule table, by what they are about. Crates above `store` cite those that `store`'s Laws repeat.
 pub mod Updating
 pub mod Table
 pub mod ByKind

@@ -13,9 +13,9 @@ use Rattle.base.specs.Bytes.{splice, put}
 use Rattle.base.proofs.Cases.{pick-ind, held, all-held}
 use Rattle.base.proofs.Parts.{Agree, drop-take}
 use Rattle.base.proofs.Runs.{getD-sets-before, drop-sets-past, drop-sets-add, put-yes}
-use Rattle.bodies.specs.Little.{le32, bytes32}
+use Rattle.records.specs.Little.{le32, bytes32}
 use Rattle.bodies.specs.Biometrics.{state, written, room, content, bioOk, takes, updated, update, activate}
-use Rattle.bodies.proofs.Numbers.{le32-agree, le32-stored, length-bytes32}
+use Rattle.records.proofs.Numbers.{le32-agree, le32-stored, length-bytes32}
 
 -- ---- whether a body is one of biometrics
 

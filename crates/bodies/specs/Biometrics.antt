@@ -8,7 +8,7 @@ use lib.Seq.{sets}
 use lib.Dec.{leb}
 use Rattle.base.specs.Choice.{pick, every}
 use Rattle.base.specs.Bytes.{part}
-use Rattle.bodies.specs.Little.{le32, bytes32}
+use Rattle.records.specs.Little.{le32, bytes32}
 
 unfoldable pub state : List ℕ → ℕ
 state xs = getD xs 0 0

@@ -1,5 +1,3 @@
--- The bodies of a card image's sections (document 01), and what the layers above speak in.
-pub mod Little
-pub mod Body
+-- The bodies of biometrics files (document 01), the rule table, and what a section's body must be by its kind.
 pub mod Biometrics
 pub mod Rules

@@ -5,7 +5,7 @@ use mathlib.Core.List.{List, [], _∷_}
 use lib.ListN.{drop}
 use lib.Dec.{leb, eqb}
 use Rattle.base.specs.Choice.{pick, every}
-use Rattle.bodies.specs.Body.{bodyOk}
+use Rattle.records.specs.Body.{bodyOk}
 use Rattle.bodies.specs.Biometrics.{bioOk}
 use Rattle.bodies.specs.declared.rules.Key.{Key}
 use Rattle.bodies.specs.declared.rules.Key.the-variants.{Kind, Id, Short}

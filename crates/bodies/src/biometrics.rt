@@ -1,5 +1,5 @@
 // Biometrics bodies: the state, the written length and the room of one file.
-use crate::little::read32;
+use records::little::read32;
 ghost use mathlib.Core.Path.{_≡_};
 ghost use mathlib.Core.Bool.{true};
 ghost use Prim.Native.Nat.{_+_, _<_, max};

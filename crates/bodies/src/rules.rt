@@ -1,6 +1,6 @@
 // The rule table of the six record files.
 use crate::biometrics;
-use crate::body;
+use records::body;
 ghost use mathlib.Core.Path.{_≡_};
 ghost use Rattle.bodies.specs.Rules.{rowOf, hasKey, ruleOf, kindOk};
 

@@ -11,7 +11,7 @@ use Rattle.base.specs.Choice.{pick}
 use Rattle.base.specs.Bytes.{part}
 use Rattle.base.proofs.Cases.{by-cases, pick-ind, held}
 use Rattle.base.proofs.Parts.{getD-part, length-part}
-use Rattle.bodies.specs.Body.{count, fits}
+use Rattle.records.specs.Body.{count, fits}
 use Rattle.bodies.specs.Biometrics.{written, room}
 use Rattle.store.specs.Image.{body}
 use Rattle.bodies.specs.declared.rules.Rule.{Rule}

@@ -2,14 +2,14 @@
 // what to do (1 byte); five numbers, each as a byte that says how many bytes it has and these, little-endian: x, y, the length of a,
 // how many zeros are put behind a, the length of b; then a and b. A function works on a copy of a, so that what it writes is seen.
 mod biometrics;
+mod body;
 mod images;
 mod reading;
-mod records;
 mod rules;
 mod windows;
 mod writing;
 
-use bodies::little::read32;
+use records::little::read32;
 ghost use mathlib.Core.Path.{_≡_};
 ghost use lib.ListN.{length};
 ghost use Rattle.io.specs.Counts.{Counts};
@@ -29,7 +29,7 @@ fn behind(s: &[u8]) -> &[u8] {
 fn answer(op: usize, x: usize, y: usize, a: &mut [u8], b: &[u8]) -> bool {
     match op / 10 {
         1 => images::answer(op, x, y, a, b),
-        2 => records::answer(op, x, y, a, b),
+        2 => body::answer(op, x, y, a, b),
         3 => biometrics::answer(op, x, a, b),
         4 => rules::answer(op, x, y, a),
         5 => reading::answer(op, x, a),

@@ -12,8 +12,8 @@ use Rattle.base.specs.Choice.{pick, every}
 use Rattle.base.specs.Bytes.{put}
 use Rattle.base.proofs.Cases.{by-cases, false-true, held as held-tests}
 use Rattle.base.proofs.Runs.{put-yes}
-use Rattle.bodies.specs.Body.{count}
-use Rattle.bodies.specs.Little.{le16}
+use Rattle.records.specs.Body.{count}
+use Rattle.records.specs.Little.{le16}
 use Rattle.bodies.specs.Rules.{isBiometrics}
 use Rattle.bodies.specs.declared.rules.Key.the-variants.{Kind}
 use Rattle.store.specs.Image.{present, body, wellFormed}

@@ -7,7 +7,7 @@ use mathlib.Core.List.{List, [], _∷_, _++_}
 use lib.ListN.{length, getD}
 use lib.Dec.{leb, eqb}
 use Rattle.base.specs.Choice.{pick, every}
-use Rattle.bodies.specs.Little.{le16}
+use Rattle.records.specs.Little.{le16}
 use Rattle.rights.specs.Chain.{held}
 use Rattle.session.specs.declared.Place.{Place}
 use Rattle.session.specs.declared.Place.the-variants.{Nothing, File as OnFile, Record as OnRecord}

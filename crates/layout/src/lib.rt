@@ -1,5 +1,5 @@
 // A session as bytes, for callers in other languages: 20 bytes of rights, the application, the place, the file id, the record number.
-use bodies::little::read16;
+use records::little::read16;
 use session::Place;
 use session::Session;
 ghost use mathlib.Core.Path.{_≡_};

@@ -5,7 +5,7 @@ use mathlib.Core.Bool.{true}
 use mathlib.Core.List.{List}
 use native.Mathlib.Omega.{arith}
 use lib.ListN.{length, take, length-take}
-use Rattle.bodies.specs.Body.{walked, bodyOk}
+use Rattle.records.specs.Body.{walked, bodyOk}
 use Rattle.store.specs.Image.{body, recordsOf, wellFormed}
 use Rattle.bodies.specs.declared.rules.Key.the-variants.{Kind}
 use Rattle.bodies.specs.declared.rules.Rule.{Rule}
@@ -14,7 +14,7 @@ use Rattle.files.specs.declared.File.the-variants.{Records}
 use Rattle.session.specs.declared.Session.{Session}
 use Rattle.session.specs.declared.Task.{Task}
 use Rattle.session.proofs.Steps.{FileReached}
-use Rattle.replies.proofs.Walking.{first-records}
+use Rattle.store.proofs.Walking.{first-records}
 
 module _ (img : List ℕ) (s : Session) (t : Task) (r : Rule) (o : wellFormed img ≡ true) (f : FileReached img s t (Records r)) where
   body-right : bodyOk (r .longest) (r .most) (body img (r .kind)) ≡ true

@@ -12,13 +12,13 @@ use borrow.Author.Tests.{le-ltb}
 use Rattle.base.specs.Choice.{pick}
 use Rattle.base.specs.Bytes.{put}
 use Rattle.base.proofs.Runs.{fits-yes, put-yes, put-behind}
-use Rattle.bodies.specs.Body.{count}
+use Rattle.records.specs.Body.{count}
 use Rattle.store.specs.Image.{updateIn}
 use Rattle.writer.specs.Writer.{after}
 use Rattle.writer.proofs.Writings.{after-yes}
-use Rattle.replies.specs.Joined.{recordsData}
-use Rattle.replies.specs.Report.{reportData}
-use Rattle.replies.proofs.Bounds.{records-bound}
+use Rattle.joined.specs.Joined.{recordsData}
+use Rattle.report.specs.Report.{reportData}
+use Rattle.joined.proofs.Joining.{records-bound}
 use Rattle.session.specs.Session.{placed}
 use Rattle.session.specs.declared.Place.the-variants.{File as OnFile, Record as OnRecord}
 use Rattle.session.specs.declared.Session.{Session}

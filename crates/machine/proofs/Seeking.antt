@@ -7,7 +7,7 @@ use native.Mathlib.Omega.{arith}
 use lib.ListN.{length, take, getD}
 use borrow.Author.Tests.{le-leb, lt-leb}
 use Rattle.base.specs.Bytes.{part}
-use Rattle.bodies.specs.Body.{walked}
+use Rattle.records.specs.Body.{walked}
 use Rattle.store.specs.Image.{body, recordsOf, wellFormed}
 use Rattle.bodies.specs.declared.rules.Rule.{Rule}
 use Rattle.templates.specs.declared.Search.{Search}
@@ -18,10 +18,10 @@ use Rattle.session.specs.declared.Place.the-variants.{Record as OnRecord}
 use Rattle.session.specs.declared.Session.{Session}
 use Rattle.session.specs.declared.Task.the-variants.{ReadRecords}
 use Rattle.session.proofs.Steps.{FileReached}
-use Rattle.replies.specs.Found.{hits, reply, foundLength}
-use Rattle.replies.proofs.Matching.{hits-length}
-use Rattle.replies.proofs.Listing.{found-length, reply-whole}
-use Rattle.replies.proofs.Bounds.{found-bound}
+use Rattle.found.specs.Found.{hits, reply, foundLength}
+use Rattle.found.proofs.Matching.{hits-length}
+use Rattle.found.proofs.Listing.{found-length, reply-whole}
+use Rattle.found.proofs.Listing.{found-bound}
 use Rattle.machine.specs.Outcome.{says}
 use Rattle.machine.specs.Effects.{hitsOf, foundOf, sought}
 use Rattle.machine.proofs.Reaching.{first-list, list-few}

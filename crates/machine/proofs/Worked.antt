@@ -9,9 +9,9 @@ use Rattle.session.specs.declared.Place.the-variants.{Record as OnRecord}
 use Rattle.base.specs.Bytes.{splice, fits as fits-base, put}
 use Rattle.base.specs.Choice.{every}
 use Rattle.bodies.specs.Biometrics.{state, written as written-store-biometrics, room, content as content-store, bioOk, takes as takes-store-biometrics, updated, update, activate as activate-store}
-use Rattle.bodies.specs.Body.{count, behind, place, firsts, records, nth, walkAt, walkTo, walked, used, fits as fits-store, okAt, okTo, bodyOk, takes as takes-store-body, written as written-store-body, appended, append}
+use Rattle.records.specs.Body.{count, behind, place, firsts, records, nth, walkAt, walkTo, walked, used, fits as fits-store, okAt, okTo, bodyOk, takes as takes-store-body, written as written-store-body, appended, append}
 use Rattle.store.specs.Image.{findFrom, find, has, there, present, applicationOf, sectionOk, sectionsOk, wellFormed, body, recordsOf, withBody, appendTo as appendTo-store, updateIn, activateIn}
-use Rattle.bodies.specs.Little.{le16, le32, bytes16, bytes32}
+use Rattle.records.specs.Little.{le16, le32, bytes16, bytes32}
 use Rattle.bodies.specs.Rules.{rules, rowOf, firstOf as firstOf-store, ruleOf, allRules, isBiometrics, kindOk}
 use Rattle.objects.specs.Encoding.{Bytes, perhaps, encode, Sized, leaves, leafCount, deep, Follows, Proper}
 use Rattle.objects.specs.Form.{formIn, formOf, readForm, readBy, firstOf as firstOf-objects}
@@ -43,9 +43,9 @@ use Rattle.recordfiles.specs.SearchRecord.{searchNamed, searchRecord}
 use Rattle.selecting.specs.Select.{aidOf, selectAid, selectMaster, selectFile, chosenBy, oneOfThree, lengthFits, select}
 use Rattle.decision.specs.Tests.{lcOnly, leOnly, neither, allLe, two, orCurrent}
 use Rattle.transparent.specs.UpdateBinary.{updateNamed, updateAt, updateBinary}
-use Rattle.replies.specs.Found.{isMatch, matchingTo, matching, hits, kept, listed, foundData, reply, foundLength}
-use Rattle.replies.specs.Joined.{joined as joined-replies, recordsData}
-use Rattle.replies.specs.Report.{capacity, further, total, remaining, existing, asked, reportData}
+use Rattle.found.specs.Found.{isMatch, matchingTo, matching, hits, kept, listed, foundData, reply, foundLength}
+use Rattle.joined.specs.Joined.{joined as joined-records, recordsData}
+use Rattle.report.specs.Report.{capacity, further, total, remaining, existing, asked, reportData}
 use Rattle.machine.specs.Effects.{hitsOf, foundOf, sought, done}
 use Rattle.machine.specs.Outcome.{word, says}
 use Rattle.machine.specs.Step.{taken, step, opening}
@@ -132,7 +132,7 @@ calls =
     ∷ []
 
 pub table : Runs (card []) (opened everything) calls
-unfolding flat section filled card usa fra buffer everything travel record-of splice fits-base put every state written-store-biometrics room content-store bioOk takes-store-biometrics updated update activate-store count behind place firsts records nth walkAt walkTo walked used fits-store okAt okTo bodyOk takes-store-body written-store-body appended append findFrom find has there present applicationOf sectionOk sectionsOk wellFormed body recordsOf withBody appendTo-store updateIn activateIn le16 le32 bytes16 bytes32 rules rowOf firstOf-store ruleOf allRules isBiometrics kindOk Bytes perhaps encode Sized leaves leafCount deep Follows Proper formIn formOf readForm readBy firstOf-objects lengthOf headOf big bytesIn bytesOf shortest numberOf-objects referenceData readReference searchData readSearch updateData readUpdate begins occursIn windowOf matchesIn headBytes after lengthBytes tagBytes tlv biometricsById byId byShort idOf kindOf content-files info aid entry entryOf entries dir certificate joinedBytes joined-rights clearedBytes cleared noRights effective sameBytes same isCleared bit flagged biometricsByte recordBit certificateBit mayRecords biometricsBit mayBiometrics inOrder suits isCertificates activated permitted reachFile reach numberOf-session refusal openRefusal opened currentId set currentRecord applicationFits placeFits fits-session pair orMost headerOf framed firstOf-apdu shapes shapeOf activate-decision appendTo-decision appendRecord byIns byOwnIns byClass decide dataOf reportOf fmmNamed fmmFile lcFits fmm readNamed readOffset readAt readBinary recordNamed readFrom fourOrFive allOfRecord readRecord searchNamed searchRecord aidOf selectAid selectMaster selectFile chosenBy oneOfThree lengthFits select lcOnly leOnly neither allLe two orCurrent updateNamed updateAt updateBinary isMatch matchingTo matching hits kept listed foundData reply foundLength joined-replies recordsData capacity further total remaining existing asked reportData hitsOf foundOf sought done word says taken step opening
+unfolding flat section filled card usa fra buffer everything travel record-of splice fits-base put every state written-store-biometrics room content-store bioOk takes-store-biometrics updated update activate-store count behind place firsts records nth walkAt walkTo walked used fits-store okAt okTo bodyOk takes-store-body written-store-body appended append findFrom find has there present applicationOf sectionOk sectionsOk wellFormed body recordsOf withBody appendTo-store updateIn activateIn le16 le32 bytes16 bytes32 rules rowOf firstOf-store ruleOf allRules isBiometrics kindOk Bytes perhaps encode Sized leaves leafCount deep Follows Proper formIn formOf readForm readBy firstOf-objects lengthOf headOf big bytesIn bytesOf shortest numberOf-objects referenceData readReference searchData readSearch updateData readUpdate begins occursIn windowOf matchesIn headBytes after lengthBytes tagBytes tlv biometricsById byId byShort idOf kindOf content-files info aid entry entryOf entries dir certificate joinedBytes joined-rights clearedBytes cleared noRights effective sameBytes same isCleared bit flagged biometricsByte recordBit certificateBit mayRecords biometricsBit mayBiometrics inOrder suits isCertificates activated permitted reachFile reach numberOf-session refusal openRefusal opened currentId set currentRecord applicationFits placeFits fits-session pair orMost headerOf framed firstOf-apdu shapes shapeOf activate-decision appendTo-decision appendRecord byIns byOwnIns byClass decide dataOf reportOf fmmNamed fmmFile lcFits fmm readNamed readOffset readAt readBinary recordNamed readFrom fourOrFive allOfRecord readRecord searchNamed searchRecord aidOf selectAid selectMaster selectFile chosenBy oneOfThree lengthFits select lcOnly leOnly neither allLe two orCurrent updateNamed updateAt updateBinary isMatch matchingTo matching hits kept listed foundData reply foundLength joined-records recordsData capacity further total remaining existing asked reportData hitsOf foundOf sought done word says taken step opening
 table = (refl, (refl, (refl, (refl, (refl, (refl, (refl, (refl, (refl, (refl, (refl, (refl, (refl, tt)))))))))))))
 
 -- m1: "6982 if one certificate lacks the travel flag"
@@ -140,5 +140,5 @@ unfoldable pub lacking : List ℕ
 lacking = put-at everything 20 6
 
 pub flag-lacking : step (card []) (opened lacking) (0x00 ∷ 0xA4 ∷ 0x04 ∷ 0x0C ∷ 0x07 ∷ 0xA0 ∷ 0x00 ∷ 0x00 ∷ 0x02 ∷ 0x47 ∷ 0x20 ∷ 0x01 ∷ []) buffer ≡ says 0x6982 [] (opened lacking) (card []) buffer
-unfolding lacking flat section filled card usa fra buffer everything travel record-of splice fits-base put every state written-store-biometrics room content-store bioOk takes-store-biometrics updated update activate-store count behind place firsts records nth walkAt walkTo walked used fits-store okAt okTo bodyOk takes-store-body written-store-body appended append findFrom find has there present applicationOf sectionOk sectionsOk wellFormed body recordsOf withBody appendTo-store updateIn activateIn le16 le32 bytes16 bytes32 rules rowOf firstOf-store ruleOf allRules isBiometrics kindOk Bytes perhaps encode Sized leaves leafCount deep Follows Proper formIn formOf readForm readBy firstOf-objects lengthOf headOf big bytesIn bytesOf shortest numberOf-objects referenceData readReference searchData readSearch updateData readUpdate begins occursIn windowOf matchesIn headBytes after lengthBytes tagBytes tlv biometricsById byId byShort idOf kindOf content-files info aid entry entryOf entries dir certificate joinedBytes joined-rights clearedBytes cleared noRights effective sameBytes same isCleared bit flagged biometricsByte recordBit certificateBit mayRecords biometricsBit mayBiometrics inOrder suits isCertificates activated permitted reachFile reach numberOf-session refusal openRefusal opened currentId set currentRecord applicationFits placeFits fits-session pair orMost headerOf framed firstOf-apdu shapes shapeOf activate-decision appendTo-decision appendRecord byIns byOwnIns byClass decide dataOf reportOf fmmNamed fmmFile lcFits fmm readNamed readOffset readAt readBinary recordNamed readFrom fourOrFive allOfRecord readRecord searchNamed searchRecord aidOf selectAid selectMaster selectFile chosenBy oneOfThree lengthFits select lcOnly leOnly neither allLe two orCurrent updateNamed updateAt updateBinary isMatch matchingTo matching hits kept listed foundData reply foundLength joined-replies recordsData capacity further total remaining existing asked reportData hitsOf foundOf sought done word says taken step opening
+unfolding lacking flat section filled card usa fra buffer everything travel record-of splice fits-base put every state written-store-biometrics room content-store bioOk takes-store-biometrics updated update activate-store count behind place firsts records nth walkAt walkTo walked used fits-store okAt okTo bodyOk takes-store-body written-store-body appended append findFrom find has there present applicationOf sectionOk sectionsOk wellFormed body recordsOf withBody appendTo-store updateIn activateIn le16 le32 bytes16 bytes32 rules rowOf firstOf-store ruleOf allRules isBiometrics kindOk Bytes perhaps encode Sized leaves leafCount deep Follows Proper formIn formOf readForm readBy firstOf-objects lengthOf headOf big bytesIn bytesOf shortest numberOf-objects referenceData readReference searchData readSearch updateData readUpdate begins occursIn windowOf matchesIn headBytes after lengthBytes tagBytes tlv biometricsById byId byShort idOf kindOf content-files info aid entry entryOf entries dir certificate joinedBytes joined-rights clearedBytes cleared noRights effective sameBytes same isCleared bit flagged biometricsByte recordBit certificateBit mayRecords biometricsBit mayBiometrics inOrder suits isCertificates activated permitted reachFile reach numberOf-session refusal openRefusal opened currentId set currentRecord applicationFits placeFits fits-session pair orMost headerOf framed firstOf-apdu shapes shapeOf activate-decision appendTo-decision appendRecord byIns byOwnIns byClass decide dataOf reportOf fmmNamed fmmFile lcFits fmm readNamed readOffset readAt readBinary recordNamed readFrom fourOrFive allOfRecord readRecord searchNamed searchRecord aidOf selectAid selectMaster selectFile chosenBy oneOfThree lengthFits select lcOnly leOnly neither allLe two orCurrent updateNamed updateAt updateBinary isMatch matchingTo matching hits kept listed foundData reply foundLength joined-records recordsData capacity further total remaining existing asked reportData hitsOf foundOf sought done word says taken step opening
 flag-lacking = refl

@@ -4,15 +4,15 @@ use mathlib.Core.List.{List, [], _∷_}
 use lib.ListN.{length, getD}
 use lib.Dec.{leb}
 use Rattle.base.specs.Bytes.{part}
-use Rattle.bodies.specs.Body.{count}
+use Rattle.records.specs.Body.{count}
 use Rattle.store.specs.Image.{body, recordsOf, appendTo, updateIn, activateIn}
 use Rattle.bodies.specs.declared.rules.Rule.{Rule}
 use Rattle.templates.specs.declared.Search.{Search}
 use Rattle.files.specs.Files.{idOf, kindOf, content}
 use Rattle.files.specs.declared.File.the-variants.{Records}
-use Rattle.replies.specs.Joined.{recordsData}
-use Rattle.replies.specs.Found.{hits, foundData}
-use Rattle.replies.specs.Report.{total, remaining, existing, reportData}
+use Rattle.joined.specs.Joined.{recordsData}
+use Rattle.found.specs.Found.{hits, foundData}
+use Rattle.report.specs.Report.{total, remaining, existing, reportData}
 use Rattle.session.specs.Order.{inOrder}
 use Rattle.session.specs.Session.{placed, entered, set}
 use Rattle.session.specs.declared.Place.the-variants.{File as OnFile, Record as OnRecord}

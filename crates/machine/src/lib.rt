@@ -1,9 +1,9 @@
 // The command machine: command bytes, rights and card image in; response, status word and image out.
 use apdu::Apdu;
-use bodies::body;
 use bodies::rules::Rule;
 use decision::Decision;
 use files::File;
+use records::body;
 use session::Place;
 use session::Refusal;
 use session::Session;
@@ -113,16 +113,16 @@ fn seek(
     let p = q.file;
     let text = base::part(data, t.at, t.len);
     let file = base::part(data, p.at, p.len);
-    let h = replies::search::search(image::body(image, r.kind), q.offset, q.number, text, q.one);
+    let h = found::search(image::body(image, r.kind), q.offset, q.number, text, q.one);
     let n = h.n;
     if n == 0 {
         return finish(s, 0x6282, 0, response);
     }
-    if ne < replies::search::found_length(file.len(), n) {
+    if ne < found::found_length(file.len(), n) {
         return finish(s, 0x6700, 0, response);
     }
-    let first = replies::search::first(h);
-    let k = replies::search::put_found(response, file, h);
+    let first = found::first(h);
+    let k = found::put_found(response, file, h);
     finish(placed(s, Place::Record(r.id, first)), 0x9000, k, response)
 }
 
@@ -131,7 +131,7 @@ fn read(image: &[u8], s: Session, r: Rule, a: usize, b: usize, response: &mut [u
     requires { ⌜ (wellFormed (now image) ≡ true) × (2050 ≤ length (now response)) × Allowed (now image) s [] (Read r a b) ⌝ }
     ensures { λ x. ⌜ outcome x (now (image .entry)) (now (response .exit)) ≡ done (Read r a b) (now (image .entry)) s [] (now (response .entry)) ⌝ }
 {
-    let n = replies::records::put_records(image::body(image, r.kind), a, b, response);
+    let n = joined::put_records(image::body(image, r.kind), a, b, response);
     finish(session::set_file(s, File::Records(r)), 0x9000, n, response)
 }
 
@@ -140,10 +140,10 @@ fn report(image: &[u8], s: Session, f: File, p2: usize, response: &mut [u8]) -> 
     requires { ⌜ 2050 ≤ length (now response) ⌝ }
     ensures { λ x. ⌜ outcome x (now (image .entry)) (now (response .exit)) ≡ done (Report f p2) (now (image .entry)) s [] (now (response .entry)) ⌝ }
 {
-    let t = replies::fmm::total(image, f);
-    let r = replies::fmm::remaining(image, f);
-    let e = replies::fmm::existing(image, f);
-    let n = replies::fmm::put_report(response, p2, t, r, e);
+    let t = report::total(image, f);
+    let r = report::remaining(image, f);
+    let e = report::existing(image, f);
+    let n = report::put_report(response, p2, t, r, e);
     finish(session::set_file(s, f), 0x9000, n, response)
 }
 

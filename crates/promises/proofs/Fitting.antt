@@ -10,7 +10,7 @@ use borrow.Author.Tests.{leb-true, le-leb, le-ltb}
 use Rattle.base.specs.Choice.{pick, every}
 use Rattle.base.specs.Bytes.{part}
 use Rattle.base.proofs.Cases.{by-cases, pick-ind, held, all-held}
-use Rattle.bodies.specs.Body.{count}
+use Rattle.records.specs.Body.{count}
 use Rattle.bodies.specs.Rules.{biometrics, rules, ruleOf, allRules, isBiometrics}
 use Rattle.bodies.specs.declared.rules.Key.the-variants.{Kind, Id}
 use Rattle.bodies.specs.declared.rules.Rule.{Rule}
@@ -42,8 +42,8 @@ use Rattle.commands.specs.Decide.{decide, dataBy, dataOf}
 use Rattle.decision.specs.declared.Decision.{Decision}
 use Rattle.decision.specs.declared.Decision.the-variants.{Status, Enter, Choose, Bytes, Write, Activate, Append, Read, Seek, Report}
 use Rattle.commands.proofs.Allowing.{From, FromShape, decide-from}
-use Rattle.replies.specs.Found.{matching, hits}
-use Rattle.replies.proofs.Matching.{first-match, hits-first, none-hits}
+use Rattle.found.specs.Found.{matching, hits}
+use Rattle.found.proofs.Matching.{first-match, hits-first, none-hits}
 use Rattle.machine.specs.Outcome.{Outcome, says}
 use Rattle.machine.specs.Effects.{hitsOf, sought, done}
 use Rattle.machine.specs.Step.{taken, step, opening}

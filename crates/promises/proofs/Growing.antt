@@ -10,7 +10,7 @@ use borrow.Author.Tests.{eqb-true, eqb-false, eq-eqb, leb-true, ltb-true, le-leb
 use Rattle.base.specs.Choice.{pick, every}
 use Rattle.base.specs.Bytes.{part}
 use Rattle.base.proofs.Cases.{by-cases, pick-ind, false-true, held, all-held}
-use Rattle.bodies.specs.Body.{nth}
+use Rattle.records.specs.Body.{nth}
 use Rattle.bodies.specs.Biometrics.{room, takes}
 use Rattle.bodies.specs.Rules.{isBiometrics}
 use Rattle.store.specs.Image.{has, body, wellFormed, recordsOf, appendTo, updateIn}

@@ -28,7 +28,8 @@ use Rattle.commands.specs.Decide.{decide, dataBy, dataOf}
 use Rattle.decision.specs.declared.Decision.{Decision}
 use Rattle.decision.specs.declared.Decision.the-variants.{Status, Enter, Choose, Bytes, Write, Activate, Append, Read, Seek, Report}
 use Rattle.commands.proofs.Allowing.{From, FromShape, decide-from, reference-short, bytes-part}
-use Rattle.replies.proofs.Bounds.{records-bound, report-bound}
+use Rattle.joined.proofs.Joining.{records-bound}
+use Rattle.report.proofs.Reporting.{report-bound}
 use Rattle.machine.specs.Outcome.{Outcome, says}
 use Rattle.machine.specs.Effects.{sought, done}
 use Rattle.machine.specs.Step.{taken, step, opening}

@@ -11,7 +11,7 @@ use borrow.Author.Tests.{eqb-true, eq-eqb, ne-eqb, leb-true, ltb-true}
 use Rattle.base.specs.Choice.{pick, every}
 use Rattle.base.specs.Bytes.{part}
 use Rattle.base.proofs.Cases.{by-cases, false-true}
-use Rattle.bodies.specs.Body.{count, nth}
+use Rattle.records.specs.Body.{count, nth}
 use Rattle.bodies.specs.Rules.{isBiometrics}
 use Rattle.store.specs.Image.{body, wellFormed, recordsOf}
 use Rattle.bodies.specs.declared.rules.Key.the-variants.{Kind}
@@ -29,9 +29,9 @@ use Rattle.commands.specs.Decide.{decide, dataBy, dataOf}
 use Rattle.decision.specs.declared.Decision.{Decision}
 use Rattle.decision.specs.declared.Decision.the-variants.{Status, Enter, Choose, Bytes, Write, Activate, Append, Read, Seek, Report}
 use Rattle.commands.proofs.Allowing.{Pair, From, FromShape, ReadBy, decide-from}
-use Rattle.replies.specs.Joined.{recordsData}
-use Rattle.replies.proofs.Joining.{joined-one}
-use Rattle.replies.proofs.Bounds.{records-bound}
+use Rattle.joined.specs.Joined.{recordsData}
+use Rattle.joined.proofs.Joining.{joined-one}
+use Rattle.joined.proofs.Joining.{records-bound}
 use Rattle.machine.specs.Outcome.{Outcome, says}
 use Rattle.machine.specs.Effects.{done}
 use Rattle.machine.specs.Step.{step}

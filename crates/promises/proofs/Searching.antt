@@ -12,7 +12,7 @@ use borrow.Author.Tests.{ltb-true, ltb-false}
 use Rattle.base.specs.Choice.{pick}
 use Rattle.base.specs.Bytes.{part}
 use Rattle.base.proofs.Cases.{by-cases, false-true}
-use Rattle.bodies.specs.Body.{nth}
+use Rattle.records.specs.Body.{nth}
 use Rattle.store.specs.Image.{wellFormed, recordsOf}
 use Rattle.bodies.specs.declared.rules.Rule.{Rule}
 use Rattle.window.specs.Window.{occursIn, windowOf, matchesIn}
@@ -26,8 +26,8 @@ use Rattle.commands.specs.Decide.{dataOf}
 use Rattle.decision.specs.declared.Decision.{Decision}
 use Rattle.decision.specs.declared.Decision.the-variants.{Seek}
 use Rattle.commands.proofs.Allowing.{Allowed, decide-allowed}
-use Rattle.replies.specs.Found.{matching, hits}
-use Rattle.replies.proofs.Matching.{Up, matching-sound, matching-complete, matching-ascends, first-match, none-hits, hits-none}
+use Rattle.found.specs.Found.{matching, hits}
+use Rattle.found.proofs.Matching.{Up, matching-sound, matching-complete, matching-ascends, first-match, none-hits, hits-none}
 use Rattle.machine.specs.Outcome.{Outcome, says}
 use Rattle.machine.specs.Effects.{hitsOf, foundOf, sought, done}
 use Rattle.machine.specs.Step.{step}

@@ -4,7 +4,7 @@ use mathlib.Core.Path.{_≡_}
 use mathlib.Core.List.{List, _++_}
 use lib.ListN.{length}
 use Rattle.window.specs.Window.{windowOf}
-use Rattle.bodies.specs.Body.{nth}
+use Rattle.records.specs.Body.{nth}
 use Rattle.templates.specs.declared.Search.{Search}
 
 -- the text stands somewhere in w

@@ -5,7 +5,7 @@ use mathlib.Core.Bool.{true, false}
 use mathlib.Core.List.{List, [], _∷_, _++_, List·Memᴰ}
 use lib.ListN.{length, take, drop, getD, replicate}
 use Rattle.base.specs.Bytes.{part}
-use Rattle.bodies.specs.Body.{nth}
+use Rattle.records.specs.Body.{nth}
 use Rattle.bodies.specs.Rules.{isBiometrics}
 use Rattle.store.specs.Image.{has, wellFormed, recordsOf}
 use Rattle.bodies.specs.declared.rules.Rule.{Rule}
@@ -26,8 +26,8 @@ use Rattle.decision.specs.Tests.{orCurrent}
 use Rattle.recordfiles.specs.ReadRecord.{recordNamed}
 use Rattle.commands.specs.Decide.{decide, dataOf}
 use Rattle.decision.specs.declared.Decision.the-variants.{Seek}
-use Rattle.replies.specs.Joined.{recordsData}
-use Rattle.replies.specs.Found.{foundData}
+use Rattle.joined.specs.Joined.{recordsData}
+use Rattle.found.specs.Found.{foundData}
 use Rattle.machine.specs.Outcome.{Outcome}
 use Rattle.machine.specs.Step.{step, opening}
 use Rattle.machine.specs.declared.Answer.{Answer}

@@ -4,7 +4,7 @@ use mathlib.Core.List.{List, [], _∷_}
 use lib.ListN.{length}
 use lib.Dec.{leb, ltb, eqb}
 use Rattle.base.specs.Choice.{every}
-use Rattle.bodies.specs.Body.{count, fits}
+use Rattle.records.specs.Body.{count, fits}
 use Rattle.store.specs.Image.{body}
 use Rattle.bodies.specs.declared.rules.Rule.{Rule}
 use Rattle.files.specs.declared.File.{File}

@@ -4,7 +4,7 @@ use mathlib.Core.Bool.{Bool, _||_}
 use mathlib.Core.List.{List, [], _∷_}
 use lib.Dec.{leb, eqb}
 use Rattle.base.specs.Choice.{pick, every}
-use Rattle.bodies.specs.Body.{count}
+use Rattle.records.specs.Body.{count}
 use Rattle.store.specs.Image.{body}
 use Rattle.bodies.specs.declared.rules.Rule.{Rule}
 use Rattle.files.specs.declared.File.{File}

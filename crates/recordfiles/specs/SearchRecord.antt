@@ -1,4 +1,4 @@
--- SEARCH RECORD, "00 A2 00 F8, Lc, Le 00 or 0000": steps 4 to 9. What is found stands in `replies`, step 10 in `machine` (Effects).
+-- SEARCH RECORD, "00 A2 00 F8, Lc, Le 00 or 0000": steps 4 to 9. What is found stands in `found`, step 10 in `machine` (Effects).
 use Prim.Native.Nat.{ℕ}
 use mathlib.Core.List.{List, [], _∷_}
 use lib.ListN.{length, getD}

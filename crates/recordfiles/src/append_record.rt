@@ -1,10 +1,10 @@
 // APPEND RECORD.
 use apdu::Frame;
-use bodies::body;
 use bodies::rules::Rule;
 use decision::Decision;
 use decision::tests;
 use files::File;
+use records::body;
 use session::Reached;
 use session::Session;
 use session::Task;

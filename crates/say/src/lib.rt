@@ -1,5 +1,6 @@
 // What programs write their answers with, to standard output: words, numbers in decimal, bytes in hexadecimal. A contract here says
 // nothing of what is written, for the logic does not speak of it; the gate compares it.
+pub mod words;
 
 // Writes a word.
 pub fn word(s: &[u8])
@@ -80,5 +81,27 @@ pub fn bytes(s: &[u8])
             return;
         }
         at += 2048;
+    }
+}
+
+// A digit as card tools write it.
+fn letter(d: usize) -> u8 {
+    let x = (d % 16) as u8;
+    if x < 10 {
+        return x + 48;
+    }
+    x + 55
+}
+
+// Writes the bytes of s, a space before each.
+pub fn spell(s: &[u8])
+    ensures { λ _. ⊤ₛ }
+{
+    let mut i = 0;
+    while i < s.len() {
+        let b = base::byte(s, i);
+        let text = [32, letter(b / 16), letter(b)];
+        word(&text);
+        i += 1;
     }
 }

@@ -5,7 +5,7 @@ use mathlib.Core.Bool.{Bool, true, false, _||_}
 use mathlib.Core.List.{List, [], _∷_}
 use lib.Dec.{leb, eqb}
 use Rattle.base.specs.Choice.{pick, every}
-use Rattle.bodies.specs.Body.{count}
+use Rattle.records.specs.Body.{count}
 use Rattle.store.specs.Image.{present, body}
 use Rattle.rights.specs.Chain.{effective, isCleared}
 use Rattle.files.specs.Files.{byId, idOf}

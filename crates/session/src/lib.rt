@@ -1,9 +1,9 @@
 // A session: its rights, the application selected, the current place. Whether it fits an image, which file a command means, and whether
 // the session may do with it what the command asks.
 use bodies::biometrics;
-use bodies::body;
 use bodies::rules::Rule;
 use files::File;
+use records::body;
 use rights::Rights;
 use store::image;
 ghost use mathlib.Core.Path.{_≡_};

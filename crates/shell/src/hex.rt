@@ -1,4 +1,4 @@
-// Hexadecimal: read from a line, with spaces anywhere between digits; written as card tools write it.
+// Hexadecimal: read from a line, with spaces anywhere between digits.
 
 // How many bytes were read, and the first digit of the next, 16 where there is none; good is false where something is no digit, or there
 // is no room.
@@ -82,23 +82,4 @@ pub(crate) fn decode(text: &[u8], out: &mut [u8]) -> Read {
         i += 1;
     }
     state(n, 16, half == 16)
-}
-
-fn letter(d: usize) -> u8 {
-    let x = (d % 16) as u8;
-    if x < 10 {
-        return x + 48;
-    }
-    x + 55
-}
-
-// Writes the bytes of s, a space before each.
-pub(crate) fn spell(s: &[u8]) {
-    let mut i = 0;
-    while i < s.len() {
-        let b = base::byte(s, i);
-        let text = [32, letter(b / 16), letter(b)];
-        say::word(&text);
-        i += 1;
-    }
 }

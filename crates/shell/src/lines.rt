@@ -1,7 +1,6 @@
 // The lines of the input, each answered as soon as it is whole.
 use crate::hex;
-use crate::show;
-use crate::words;
+use say::words;
 ghost use Prim.Native.Nat.{_≤_};
 ghost use lib.ListN.{length};
 
@@ -94,7 +93,7 @@ fn answer(r: u64, response: &[u8]) {
         return;
     }
     say::word(b"<");
-    hex::spell(base::part(response, 0, (r / 65536 % 65536) as usize));
+    say::spell(base::part(response, 0, (r / 65536 % 65536) as usize));
     say::word(b" : ");
     words::status(r % 65536);
     say::end();
@@ -103,7 +102,7 @@ fn answer(r: u64, response: &[u8]) {
 // Sends a command to the card, and says what it was and what came back.
 fn send(command: &[u8], image: &mut [u8], session: &mut [u8]) {
     say::word(b">");
-    hex::spell(command);
+    say::spell(command);
     say::end();
     let mut response = io::buffer();
     let r = malquindo::malquindo_command(image, session, command, &mut response);
@@ -133,7 +132,7 @@ fn line(text: &[u8], image: &mut [u8], session: &mut [u8]) {
         return;
     }
     if starts(t, b"show") {
-        show::card(image);
+        listing::card(image);
         return;
     }
     command(t, image, session);

@@ -4,8 +4,6 @@
 mod card;
 mod hex;
 mod lines;
-mod show;
-mod words;
 
 ghost use mathlib.Core.Path.{_≡_};
 ghost use lib.ListN.{length};

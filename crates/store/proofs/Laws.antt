@@ -12,8 +12,8 @@ use borrow.Author.Tests.{leb-true, eqb-true}
 use Rattle.base.specs.Bytes.{part, splice}
 use Rattle.base.proofs.Cases.{held}
 use Rattle.base.proofs.Parts.{length-part}
-use Rattle.bodies.specs.Little.{le16}
-use Rattle.bodies.specs.Body.{count, behind, walkAt, walkTo, walked, firsts, place, recordAt, records, nth, used, fits, bodyOk, takes, appended, append}
+use Rattle.records.specs.Little.{le16}
+use Rattle.records.specs.Body.{count, behind, walkAt, walkTo, walked, firsts, place, recordAt, records, nth, used, fits, bodyOk, takes, appended, append}
 use Rattle.bodies.specs.Biometrics.{state, written, room, content, bioOk, updated, update, activate}
 use Rattle.bodies.specs.Biometrics.{takes as takesAt}
 use Rattle.bodies.specs.Rules.{hasKey, ruleOf, isBiometrics, kindOk}
@@ -24,8 +24,8 @@ use Rattle.bodies.specs.declared.rules.Rule.{Rule}
 use Rattle.bodies.specs.declared.rules.Ruled.{Ruled}
 use Rattle.bodies.specs.declared.rules.Ruled.the-variants.{Is, Nothing}
 use Rattle.store.specs.declared.image.Found.the-variants.{At}
-use Rattle.bodies.proofs.Bodies as bodies
-use Rattle.bodies.proofs.Appending as appending
+use Rattle.records.proofs.Bodies as bodies
+use Rattle.records.proofs.Appending as appending
 use Rattle.bodies.proofs.Updating as updating
 use Rattle.bodies.proofs.Table as table
 use Rattle.bodies.proofs.ByKind as by-kind

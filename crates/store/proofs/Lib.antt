@@ -4,3 +4,4 @@ pub mod Presence
 pub mod Splicing
 pub mod Files
 pub mod Laws
+pub mod Walking

@@ -15,7 +15,7 @@ use Rattle.bodies.specs.Rules.{rules, allRules, kindOk}
 use Rattle.store.specs.Image.{lenAt, kindAt, bodyAt, endAt, choose, findFrom, find, isAt, has, there, present, applicationOf, sectionOk, sectionsOk, wellFormed}
 use Rattle.bodies.specs.declared.rules.Rule.{Rule}
 use Rattle.store.specs.declared.image.Found.the-variants.{At, Missing}
-use Rattle.bodies.proofs.Numbers.{le16-agree, le32-agree}
+use Rattle.records.proofs.Numbers.{le16-agree, le32-agree}
 use Rattle.store.proofs.Sections.{section-facts}
 
 -- ---- what a find says

@@ -8,8 +8,8 @@ use lib.ListN.{length}
 use lib.Dec.{leb, ltb, eqb}
 use Rattle.base.specs.Choice.{pick, every}
 use Rattle.base.specs.Bytes.{part, splice}
-use Rattle.bodies.specs.Little.{le16, le32}
-use Rattle.bodies.specs.Body.{records, append}
+use Rattle.records.specs.Little.{le16, le32}
+use Rattle.records.specs.Body.{records, append}
 use Rattle.bodies.specs.Biometrics.{update, activate}
 use Rattle.bodies.specs.Rules.{travel, visa, biometrics, rules, allRules, kindOk}
 use Rattle.bodies.specs.declared.rules.Rule.{Rule}

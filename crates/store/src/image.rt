@@ -1,8 +1,5 @@
 // The image: where the body of a kind stands, which applications are present, and whether the whole is well formed.
 use bodies::biometrics;
-use bodies::body;
-use bodies::little::read16;
-use bodies::little::read32;
 use bodies::rules::BIOMETRICS;
 use bodies::rules::Rule;
 use bodies::rules::Ruled;
@@ -10,10 +7,13 @@ use bodies::rules::TRAVEL;
 use bodies::rules::VISA;
 use bodies::rules::kind_ok;
 use bodies::rules::row;
+use records::body;
+use records::little::read16;
+use records::little::read32;
 ghost use mathlib.Core.Path.{_≡_};
 ghost use Prim.Native.Nat.{_+_, _≤_, _<_};
 ghost use lib.ListN.{length};
-ghost use Rattle.bodies.specs.Body.{takes};
+ghost use Rattle.records.specs.Body.{takes};
 ghost use Rattle.bodies.specs.Biometrics.{bioOk, takes as takesAt};
 ghost use Rattle.store.specs.Image.{find, has, body, there, present, applicationOf, presentBehind, sectionOk, wellFormed, appendTo, updateIn, activateIn};
 

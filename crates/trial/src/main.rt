@@ -5,7 +5,7 @@
 // 2, a command: its length (2 bytes, little-endian), its bytes. It is run on the card, with the session that the call before
 //    answered and a response buffer of 2,050 bytes. The line: the refusal's number, the response (`-` where there is none).
 // 3, a look: the line is the card's image.
-use bodies::little::read32;
+use records::little::read32;
 use session::Refusal;
 use session::Session;
 ghost use mathlib.Core.Path.{_≡_};

@@ -6,8 +6,8 @@
 // 4, a command: the length of the response buffer (2 bytes, little-endian), that of the command (2 bytes, little-endian), the
 //    command. The response buffer is filled with A5. The line: the result, the answer (`-` where there is none), the session's bytes, a
 //    hash of the image, a hash of the response buffer.
-use bodies::little::read16;
-use bodies::little::read32;
+use records::little::read16;
+use records::little::read32;
 ghost use mathlib.Core.Path.{_≡_};
 ghost use lib.ListN.{length};
 

@@ -200,6 +200,26 @@ pub fn almost_strings() -> Vec<(&'static str, Vec<u8>)> {
     strings
 }
 
+/// Records of one letter, broken by another at each k-th byte, and a string of that letter as long as k: at each place nearly
+/// all of it stands, and no one byte of it tells where it does not.
+pub fn search_broken(k: usize) -> Case {
+    let mut record = vec![b'a'; LONGEST_RECORD];
+    record
+        .iter_mut()
+        .skip(k - 1)
+        .step_by(k)
+        .for_each(|b| *b = b'b');
+    let card = travel_card(&vec![record; MOST_RECORDS], 0);
+    let held =
+        format!("254 records of 391 times 'a' with a 'b' at each {k}th, string of {k} times 'a'");
+    let name = "SEARCH RECORD, a string that almost occurs";
+    let string = vec![b'a'; k];
+    Case::new(name, &held, &card, TRAVEL, search(&string)).status(0x6282)
+}
+
+/// How far the broken records' breaks lie from one another.
+pub const BREAKS: [usize; 10] = [4, 8, 16, 24, 41, 66, 98, 130, 196, 300];
+
 pub fn fmm() -> Case {
     let card = travel_card(&random_records(MOST_RECORDS), 0);
     let command = Apdu::new(0x80, 0x5E, 0x01, 0x07)

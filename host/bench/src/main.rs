@@ -67,10 +67,12 @@ fn times() {
 
 /// Searches for nothing with several strings, each timed for a short while.
 fn almost_searches() -> Vec<(Case, Times)> {
-    cases::almost_strings()
+    let almost = cases::almost_strings()
         .into_iter()
-        .map(|(shape, string)| {
-            let case = cases::search_almost(shape, &string);
+        .map(|(shape, string)| cases::search_almost(shape, &string));
+    almost
+        .chain(cases::BREAKS.map(cases::search_broken))
+        .map(|case| {
             let times = time::measure_within(&case, Duration::from_millis(20));
             (case, times)
         })
@@ -110,16 +112,14 @@ fn print_per_byte(name: &str, times: Times) {
     );
 }
 
-/// The searches that fail at the string's last byte, by its length.
+/// The searches that fail at the string's last byte, and those of broken records, by the string's length.
 fn print_by_length(tried: &[(Case, Times)]) {
-    println!("\n| 254 records of 391 times 'a' | proved (µs) | reference (µs) |");
+    println!("\n| searched | proved (µs) | reference (µs) |");
     println!("|---|---|---|");
     for (case, times) in tried {
-        if let Some((_, string)) = case.held.split_once("'a', ") {
-            if string.ends_with("'b' last") {
-                let (proved, reference) = (times.proved / 1_000.0, times.reference / 1_000.0);
-                println!("| {string} | {proved:.3} | {reference:.3} |");
-            }
+        if case.held.ends_with("'b' last") || case.held.contains("with a 'b'") {
+            let (proved, reference) = (times.proved / 1_000.0, times.reference / 1_000.0);
+            println!("| {} | {proved:.3} | {reference:.3} |", case.held);
         }
     }
 }

@@ -4,7 +4,7 @@ use Rattle.machine.specs.Effects.{done}
 use borrow.Author.Needs.{needs}
 use Rattle.machine.proofs.append.Statement.{statement}
 use Rattle.machine.proofs.append.Tie as tie
-use Rattle.bodies.proofs.body.count.Reads as count-reads
+use Rattle.records.proofs.body.count.Reads as count-reads
 use Rattle.machine.proofs.finish.Reads as finish-reads
 use Rattle.machine.proofs.placed.Reads as placed-reads
 use Rattle.store.proofs.image.append.Reads as append-reads

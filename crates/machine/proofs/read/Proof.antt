@@ -2,7 +2,7 @@
 use mathlib.Core.Path.{refl}
 use denote.Ref.{now}
 use borrow.Author.Needs.{needs}
-use Rattle.replies.proofs.Bounds.{records-bound}
+use Rattle.joined.proofs.Joining.{records-bound}
 use Rattle.machine.proofs.Saying.{said, stored-records}
 use Rattle.machine.specs.Effects.{done}
 use Rattle.machine.proofs.Reaching.{walked-list}

@@ -1,7 +1,7 @@
 -- `machine::report` meets its contract.
 use borrow.Author.Needs.{needs}
 use Rattle.writer.proofs.Writings.{wrote}
-use Rattle.replies.proofs.Bounds.{report-bound}
+use Rattle.report.proofs.Reporting.{report-bound}
 use Rattle.machine.specs.Effects.{done}
 use Rattle.machine.proofs.Saying.{said, stored, same-report}
 use Rattle.machine.proofs.report.Statement.{statement}

@@ -5,7 +5,7 @@ use lib.Dec.{leb}
 use borrow.Author.Tests.{lt-leb, le-leb}
 use borrow.Author.Needs.{needs}
 use Rattle.base.specs.Choice.{every}
-use Rattle.bodies.specs.Body.{count}
+use Rattle.records.specs.Body.{count}
 use Rattle.session.proofs.record_fits.Statement.{statement}
 use Rattle.session.proofs.record_fits.Tie as tie
 

@@ -6,9 +6,9 @@ use native.Mathlib.Omega.{arith}
 use lib.ListN.{length}
 use denote.Ref.{now}
 use borrow.Author.Needs.{needs}
-use Rattle.bodies.specs.Body.{takes, append}
+use Rattle.records.specs.Body.{takes, append}
 use Rattle.store.specs.Image.{appendTo}
-use Rattle.bodies.proofs.Appending.{takes-nothing, append-length}
+use Rattle.records.proofs.Appending.{takes-nothing, append-length}
 use Rattle.store.proofs.Splicing.{found-inside}
 use Rattle.store.proofs.Files.{missing-body, missing-put, lent, come-back}
 use Rattle.store.proofs.image.append.Statement.{statement}

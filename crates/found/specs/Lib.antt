@@ -1,0 +1,2 @@
+-- SEARCH RECORD: the data returned.
+pub mod Found

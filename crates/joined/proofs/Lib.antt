@@ -1,0 +1,2 @@
+-- Laws of records joined.
+pub mod Joining

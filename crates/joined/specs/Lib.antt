@@ -1,0 +1,2 @@
+-- READ RECORD: the data returned.
+pub mod Joined

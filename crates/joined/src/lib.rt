@@ -1,0 +1,62 @@
+// The data of READ RECORD: the records with some numbers, joined. What is asked for, by whom and of which file is for the layer above to
+// decide.
+use base::natural::lesser;
+use base::natural::without;
+use records::body;
+ghost use mathlib.Core.Path.{_≡_};
+ghost use Prim.Native.Nat.{_+_, _-_, _≤_};
+ghost use lib.ListN.{length, take};
+ghost use lib.Seq.{sets};
+ghost use lib.Dec.{ltb};
+ghost use Rattle.base.specs.Choice.{pick};
+ghost use Rattle.records.specs.Body.{walkAt, walked};
+ghost use Rattle.joined.specs.Joined.{recordsData};
+
+// The most bytes that are returned.
+const CUT: usize = 2048;
+
+// Where the walk over the records is behind the first n: a number says nothing of a place, so it begins at the first record.
+fn walk(body: &[u8], n: usize) -> usize
+    ensures { λ r. ⌜ r ≡ walkAt (now (body .entry)) n ⌝ }
+{
+    let mut at = 2;
+    let mut passed = 0;
+    while passed < n {
+        at = body::behind(body, at);
+        passed += 1;
+    }
+    at
+}
+
+// Stores a record behind the first len bytes, as far as the cut allows. Answers how many bytes there are then.
+fn put_cut(out: &mut [u8], len: usize, record: &[u8]) -> usize
+    requires { ⌜ (len ≤ 2048) × (2048 ≤ length (now out)) ⌝ }
+    ensures { λ r. ⌜ (r ≡ len + length (take (2048 - len) (now («record» .entry)))) × (now (out .exit) ≡ sets (now (out .entry)) len (take (2048 - len) (now («record» .entry)))) ⌝ }
+{
+    let piece = base::part(record, 0, CUT - len);
+    base::put(out, len, piece);
+    len + piece.len()
+}
+
+// Stores the records with the numbers first to last at the start of out, one behind the other, cut at 2,048 bytes, where out has as many.
+// Answers how many bytes. It ends with the last record, or as soon as the 2,048 bytes are there.
+pub fn put_records(body: &[u8], first: usize, last: usize, out: &mut [u8]) -> usize
+    ensures { λ r. ⌜ (r ≡ pick (ltb (length (now (out .entry))) 2048) 0 (length (recordsData (walked (now (body .entry))) first last))) × (now (out .exit) ≡ pick (ltb (length (now (out .entry))) 2048) (now (out .entry)) (sets (now (out .entry)) 0 (recordsData (walked (now (body .entry))) first last))) ⌝ }
+{
+    if out.len() < CUT {
+        return 0;
+    }
+    let end = lesser(last, body::count(body));
+    let mut n = lesser(without(first, 1), end);
+    let mut at = walk(body, n);
+    let mut len = 0;
+    while n < end {
+        if CUT <= len {
+            return len;
+        }
+        len = put_cut(out, len, body::record_at(body, at));
+        at = body::behind(body, at);
+        n += 1;
+    }
+    len
+}

@@ -1,0 +1,2 @@
+-- Laws of a report.
+pub mod Reporting

@@ -1,0 +1,2 @@
+-- FMM: the data returned.
+pub mod Report
