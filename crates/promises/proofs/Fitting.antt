@@ -1,15 +1,15 @@
 -- A session that fits an image: it goes on to fit what calls make of the image, and so does each session that a command answers.
 use Prim.Native.Nat.{ℕ, _+_, _-_, _≤_}
-use mathlib.Core.Path.{_≡_, refl, sym, ap, ap₂, _∙_}
-use mathlib.Core.Bool.{Bool, true, false, not, _&&_, _||_}
+use mathlib.Core.Path.{_≡_, refl, sym, ap, _∙_}
+use mathlib.Core.Bool.{Bool, true, false, _&&_}
 use mathlib.Core.List.{List, [], _∷_, _++_}
 use native.Mathlib.Omega.{arith}
 use lib.ListN.{length, getD, length-append}
 use lib.Dec.{leb, eqb}
 use borrow.Author.Tests.{leb-true, le-leb, le-ltb}
-use Rattle.base.specs.Choice.{pick, every}
+use Rattle.base.specs.Choice.{every}
 use Rattle.base.specs.Bytes.{part}
-use Rattle.base.proofs.Cases.{by-cases, pick-ind, held, all-held}
+use Rattle.base.proofs.Cases.{by-cases, pick-ind, false-true, and-left, and-right, held, all-held}
 use Rattle.records.specs.Body.{count}
 use Rattle.bodies.specs.Rules.{biometrics, rules, ruleOf, allRules, isBiometrics}
 use Rattle.bodies.specs.declared.rules.Key.the-variants.{Kind, Id}
@@ -51,10 +51,10 @@ use Rattle.promises.specs.Calls.{Command, next, after, history}
 use Rattle.promises.specs.Promises.{Stays-taken, Answer-fits, Opening-fits}
 use Rattle.promises.proofs.Growing.{accepts, call-grown, calls-held}
 
--- ---- an image with the same files and no fewer records
+-- ---- an image that has lost no file and no record
 
 record Keeps (img new : List ℕ) : Type 0 where
-  pub files : (k : ℕ) → has new k ≡ has img k
+  pub files : (k : ℕ) → has img k ≡ true → has new k ≡ true
   pub counts : (k : ℕ) → isBiometrics k ≡ false → count (body img k) ≤ count (body new k)
 
 list-count : (img : List ℕ) (k : ℕ) → length (recordsOf img k) ≡ count (body img k)
@@ -67,23 +67,45 @@ more-records img new k more e =
     omega (arith, list-count img k, list-count new k, length-append (recordsOf img k) more)
 
 module _ {img new : List ℕ} (k : Keeps img new) where
-  same-rules : (a : ℕ) (rs : List Rule) → allRules (there new a) rs ≡ allRules (there img a) rs
-  unfolding allRules there
-  same-rules a [] = refl
-  same-rules a (r ∷ rs) = ap₂ (λ (x y : Bool). (not (eqb (r .application) a) || x) && y) (k .files (r .kind)) (same-rules a rs)
+  still-there : (a : ℕ) (r : Rule) → there img a r ≡ true → there new a r ≡ true
+  unfolding there
+  still-there a r e = by-cases (eqb (r .application) a) (λ y. simp y (k .files (r .kind) (simp y at e))) (λ n. simp n)
 
-  same-application : (a : ℕ) → applicationFits new a ≡ applicationFits img a
+  still-all : (a : ℕ) (rs : List Rule) → allRules (there img a) rs ≡ true → allRules (there new a) rs ≡ true
+  unfolding allRules
+  still-all a [] e = e
+  still-all a (r ∷ rs) e =
+      simp (still-there a r (and-left _ _ e)) (still-all a rs (and-right (there img a r) (allRules (there img a) rs) e))
+
+  same-application : (a : ℕ) → applicationFits img a ≡ true → applicationFits new a ≡ true
   unfolding applicationFits present
-  same-application a = ap (λ (b : Bool). eqb a 0 || every (leb 1 a ∷ leb a 3 ∷ b ∷ [])) (same-rules a rules)
+  same-application a e =
+      by-cases (eqb a 0)
+      (λ y. simp y)
+      (λ n. let h = held _ (simp n at e) in simp n (all-held _ (h .0, (h .1 .0, (still-all a rules (h .1 .1 .0), tt)))))
 
-  same-file : (a i : ℕ) → byId new a i ≡ byId img a i
-  unfolding byId biometricsById
-  same-file a i = ap (λ (f : File). pick (eqb a 0) (pick (eqb i 0x2F01) Info (pick (eqb i 0x2F00) Dir Missing)) f) (go (ruleOf (Id a i)))
+  -- a file that was there is what its id means still
+  same-biometrics : (a i : ℕ) → isThere (biometricsById img a i) ≡ true → biometricsById new a i ≡ biometricsById img a i
+  unfolding biometricsById
+  same-biometrics a i t =
+      by-cases (every (tests img))
+      (λ y. let h = held (tests img) y in
+      let z : every (tests new) ≡ true = all-held (tests new) (h .0, (h .1 .0, (h .1 .1 .0, (k .files (i + 0x0200) (h .1 .1 .1 .0), tt)))) in simp (y, z))
+      (λ n. false-true (simp n at t))
     where
-      go : (x : Ruled) → ruled new x (biometricsById new a i) ≡ ruled img x (biometricsById img a i)
-      go (Is r) = ap (λ (b : Bool). pick b (Records r) Missing) (k .files (r .kind))
-      go Nothing =
-          ap (λ (b : Bool). pick (every (eqb a biometrics ∷ leb 0x0201 i ∷ leb i 0x0240 ∷ b ∷ [])) (Biometrics (i - 0x0200)) Missing) (k .files (i + 0x0200))
+      tests : List ℕ → List Bool
+      tests im = eqb a biometrics ∷ leb 0x0201 i ∷ leb i 0x0240 ∷ has im (i + 0x0200) ∷ []
+
+  same-file : (a i : ℕ) → isThere (byId img a i) ≡ true → byId new a i ≡ byId img a i
+  unfolding byId
+  same-file a i e = by-cases (eqb a 0) (λ y. simp y) (λ n. simp n (go (ruleOf (Id a i)) (simp n at e)))
+    where
+      go : (x : Ruled) → isThere (ruled img x (biometricsById img a i)) ≡ true → ruled new x (biometricsById new a i) ≡ ruled img x (biometricsById img a i)
+      go (Is r) t =
+          by-cases (has img (r .kind))
+          (λ y. simp (y, k .files (r .kind) y))
+          (λ n. false-true (simp n at t))
+      go Nothing t = same-biometrics a i t
 
   -- a record file's kind is no biometrics file's
   no-biometrics : (r : Rule) → ruleOf (Kind (r .kind)) ≡ Is r → isBiometrics (r .kind) ≡ false
@@ -103,17 +125,25 @@ module _ {img new : List ℕ} (k : Keeps img new) where
       let c : n ≤ count (body new (r .kind)) = omega (arith, leb-true n _ (h .1 .0), k .counts (r .kind) (no-biometrics r (o .by-kind))) in
       all-held _ (h .0, (le-leb _ _ c, tt))
 
+  record-there : (f : File) (n : ℕ) → recordFits img f n ≡ true → isThere f ≡ true
+  record-there Missing n e = e
+  record-there Info n e = refl
+  record-there Dir n e = refl
+  record-there (Records r) n e = refl
+  record-there (Biometrics m) n e = refl
+
   same-place : (a : ℕ) (p : Place) → placeFits img a p ≡ true → placeFits new a p ≡ true
   unfolding placeFits
   same-place a Nowhere e = e
-  same-place a (OnFile i) e = ap isThere (same-file a i) ∙ e
-  same-place a (OnRecord i n) e = ap (λ (f : File). recordFits new f n) (same-file a i) ∙ same-record (byId img a i) n (by-id-ok img a i) e
+  same-place a (OnFile i) e = ap isThere (same-file a i e) ∙ e
+  same-place a (OnRecord i n) e =
+      ap (λ (f : File). recordFits new f n) (same-file a i (record-there (byId img a i) n e)) ∙ same-record (byId img a i) n (by-id-ok img a i) e
 
   fits-on : (s : Session) → fits img s ≡ true → fits new s ≡ true
   unfolding fits
   fits-on s e =
       let h = held _ e in
-      all-held _ (same-application (s .application) ∙ h .0, (same-place (s .application) (s .place) (h .1 .0), (h .1 .1 .0, tt)))
+      all-held _ (same-application (s .application) (h .0), (same-place (s .application) (s .place) (h .1 .0), (h .1 .1 .0, tt)))
 
 -- ---- sessions that a command answers
 
@@ -176,7 +206,7 @@ module _ (img : List ℕ) (s : Session) (cmd buf : List ℕ) (o : wellFormed img
       let d = part cmd (f .from) (f .lc) in
       let l : length (recordsOf (appendTo img (r .kind) d) (r .kind)) ≡ length (recordsOf img (r .kind) ++ (d ∷ [])) = ap length (append-list img (r .kind) r d o (accepts img s cmd buf o d r (h .2))) in
       let m = length-append (recordsOf img (r .kind)) (d ∷ []) in
-      at-record _ s (fits-on k s e) r _ (same-file k (s .application) (r .id) ∙ h .2 .file .own) (omega arith)
+      at-record _ s (fits-on k s e) r _ (same-file k (s .application) (r .id) (ap isThere (h .2 .file .own) ∙ h .2 .file .there) ∙ h .2 .file .own) (omega arith)
       (omega (arith, l, m, list-count img (r .kind), list-count (appendTo img (r .kind) d) (r .kind)))
   done-fits f (Read r a b) h k = at-set img s e _ (Records r) (h .readable .file)
   done-fits f (Seek r q ne) h k = fits-on k _ (sought-fits img s e _ buf r q ne (h .file))

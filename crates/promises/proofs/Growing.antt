@@ -43,10 +43,10 @@ use Rattle.machine.specs.Step.{taken, step}
 use Rattle.promises.specs.Calls.{Call, Open, Command, next, after, isPair, fileOf, addedBy, added, additions, history}
 use Rattle.promises.specs.Promises.{Holds, Number-kept}
 
--- an image with the same files, in which each record file has some records more
+-- an image that has lost no file, in which each record file has some records more
 pub record Grown (img new : List ℕ) (more : ℕ → List (List ℕ)) : Type 0 where
   pub well : wellFormed new ≡ true
-  pub files : (k : ℕ) → has new k ≡ has img k
+  pub files : (k : ℕ) → has img k ≡ true → has new k ≡ true
   pub records : (k : ℕ) → isBiometrics k ≡ false → recordsOf new k ≡ recordsOf img k ++ more k
 
 module _ (img : List ℕ) (o : wellFormed img ≡ true) where
@@ -55,7 +55,7 @@ module _ (img : List ℕ) (o : wellFormed img ≡ true) where
   grown-none e n =
       record {
         well = ap wellFormed e ∙ o;
-        files = λ k. ap (λ (l : List ℕ). has l k) e;
+        files = λ k h. ap (λ (l : List ℕ). has l k) e ∙ h;
         records = λ k b. ap (λ (l : List ℕ). recordsOf l k) e ∙ sym (append-nil (recordsOf img k)) ∙ ap (λ (l : List (List ℕ)). recordsOf img k ++ l) (sym (n k));
       }
 
@@ -63,7 +63,7 @@ module _ (img : List ℕ) (o : wellFormed img ≡ true) where
   grown-changed new j b c n =
       record {
         well = c .well;
-        files = c .same-files;
+        files = λ k h. c .same-files k ∙ h;
         records = λ k h. records-kept img new j c k (λ e. false-true (sym h ∙ ap isBiometrics e ∙ b))
             ∙ sym (append-nil (recordsOf img k)) ∙ ap (λ (l : List (List ℕ)). recordsOf img k ++ l) (sym (n k));
       }
@@ -133,7 +133,7 @@ module _ (img : List ℕ) (s : Session) (cmd buf : List ℕ) (o : wellFormed img
   appends-grown : (f : Frame) (r : Rule) → From img s f (part cmd (f .from) (f .lc)) (Append r)
       → Grown img (appendTo img (r .kind) (part cmd (f .from) (f .lc))) (λ k. addedBy k img s cmd 0x9000 (Good f))
   appends-grown f r h =
-      record { well = c .well; files = c .same-files; records = λ k b. by-cases (eqb k (r .kind)) (λ e. here k (eqb-true k (r .kind) e)) (λ e. there k (eqb-false k (r .kind) e)) }
+      record { well = c .well; files = λ k h. c .same-files k ∙ h; records = λ k b. by-cases (eqb k (r .kind)) (λ e. here k (eqb-true k (r .kind) e)) (λ e. there k (eqb-false k (r .kind) e)) }
     where
       d : List ℕ
       d = part cmd (f .from) (f .lc)
@@ -220,13 +220,13 @@ call-grown img (Command s cmd buf) o = taken-grown img s cmd buf o (refusal img 
 
 pub calls-held : Holds
 unfolding after additions history
-calls-held img [] o = record { well = o; files = λ k. refl; records = λ k b. sym (append-nil (recordsOf img k)) }
+calls-held img [] o = record { well = o; files = λ k h. h; records = λ k b. sym (append-nil (recordsOf img k)) }
 calls-held img (c ∷ cs) o =
     let g = call-grown img c o in
     let h = calls-held (next img c) cs (g .well) in
     record {
       well = h .well;
-      files = λ k. h .files k ∙ g .files k;
+      files = λ k y. h .files k (g .files k y);
       records = λ k b. h .records k b
           ∙ ap (λ (l : List (List ℕ)). l ++ additions k (next img c) cs) (g .records k b)
           ∙ append-assoc (recordsOf img k) (added k img c) (additions k (next img c) cs);

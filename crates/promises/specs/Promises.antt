@@ -67,11 +67,11 @@ Opens = (rights : List ℕ) → Opened rights (opening rights)
 
 -- ---- 2. "Can you show that record 7 is still the record 7 that was written, after any commands at all?"
 
--- over any calls the image stays well formed, the same files are there, and the records of each file are its history. k is any kind but
--- a biometrics file's, which has no records; the six record files of document 01 are such kinds
+-- over any calls the image stays well formed, no file is lost, and the records of each file are its history. k is any kind but a
+-- biometrics file's, which has no records; the six record files of document 01 are such kinds
 pub record Held (img : List ℕ) (calls : List Call) : Type 0 where
   pub well : wellFormed (after img calls) ≡ true
-  pub files : (k : ℕ) → has (after img calls) k ≡ has img k
+  pub files : (k : ℕ) → has img k ≡ true → has (after img calls) k ≡ true
   pub records : (k : ℕ) → isBiometrics k ≡ false → recordsOf (after img calls) k ≡ history k img calls
 
 abbrev pub Holds : Type 0
