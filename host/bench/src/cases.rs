@@ -211,7 +211,7 @@ pub fn search_broken(k: usize) -> Case {
         .for_each(|b| *b = b'b');
     let card = travel_card(&vec![record; MOST_RECORDS], 0);
     let held =
-        format!("254 records of 391 times 'a' with a 'b' at each {k}th, string of {k} times 'a'");
+        format!("254 records of 391 times 'a' with a 'b' every {k} bytes, string of {k} times 'a'");
     let name = "SEARCH RECORD, a string that almost occurs";
     let string = vec![b'a'; k];
     Case::new(name, &held, &card, TRAVEL, search(&string)).status(0x6282)
