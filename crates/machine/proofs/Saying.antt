@@ -1,8 +1,8 @@
 -- A status word behind its data.
-use Prim.Native.Nat.{ℕ, _+_, _≤_}
+use Prim.Native.Nat.{ℕ, _≤_}
 use mathlib.Core.Path.{_≡_, sym, ap, ap₂, _∙_}
 use mathlib.Core.Bool.{false}
-use mathlib.Core.List.{List, []}
+use mathlib.Core.List.{List}
 use native.Mathlib.Omega.{arith}
 use native.Mathlib.Nat.{zero-add}
 use lib.ListN.{length, length-append}
@@ -12,18 +12,16 @@ use borrow.Author.Tests.{le-ltb}
 use Rattle.base.specs.Choice.{pick}
 use Rattle.base.specs.Bytes.{put}
 use Rattle.base.proofs.Runs.{fits-yes, put-yes, put-behind}
-use Rattle.records.specs.Body.{count}
-use Rattle.store.specs.Image.{updateIn}
 use Rattle.writer.specs.Writer.{after}
 use Rattle.writer.proofs.Writings.{after-yes}
 use Rattle.joined.specs.Joined.{recordsData}
 use Rattle.report.specs.Report.{reportData}
 use Rattle.joined.proofs.Joining.{records-bound}
 use Rattle.session.specs.Session.{placed}
-use Rattle.session.specs.declared.Place.the-variants.{File as OnFile, Record as OnRecord}
+use Rattle.session.specs.declared.Place.the-variants.{File as OnFile}
 use Rattle.session.specs.declared.Session.{Session}
-use Rattle.machine.specs.Outcome.{outcome, word, answered, says}
-use Rattle.machine.specs.declared.Answer.{Answer}
+use Rattle.effects.specs.Outcome.{outcome, word, answered, says}
+use Rattle.effects.specs.declared.Answer.{Answer}
 
 -- the data stands at the start of the buffer, the word comes behind it
 pub said : (w : ℕ) (dat : List ℕ) (s : Session) (img buf : List ℕ) {t : Session} {n : ℕ} {mid new : List ℕ} {a : Answer} → length dat ≤ 2048 → 2050 ≤ length buf
@@ -35,14 +33,6 @@ said w dat s img buf {t} {n} {mid} {new} {a} h r o p e =
     (e .1
     ∙ ap₂ (λ (l : List ℕ) (k : ℕ). put l k (word w)) (p .1) (p .0 ∙ sym (zero-add (length dat)))
     ∙ put-behind buf 0 dat (word w) (simp length-append (omega arith)))
-
--- no data, and perhaps another image
-pub said-only : (w : ℕ) (s : Session) (img buf : List ℕ) {t : Session} {im new : List ℕ} {a : Answer} → t ≡ s → im ≡ img
-    → (a ≡ answered 0 w t) × (new ≡ put buf 0 (word w)) → outcome a im new ≡ says w [] s img buf
-unfolding says
-said-only w s img buf {t} {im} {new} o i e =
-    ap₂ (λ (x : Answer) (m : List ℕ). outcome x m new) (e .0 ∙ ap (λ (x : Session). answered 0 w x) o) i
-    ∙ ap (outcome (answered 0 w s) img) (e .1)
 
 -- a writer that answers the place behind what it stored has room for it
 pub stored : (buf dat : List ℕ) {n : ℕ} {mid : List ℕ} → length dat ≤ 2048 → 2050 ≤ length buf → (n ≡ after buf 0 dat) × (mid ≡ put buf 0 dat)
@@ -72,13 +62,6 @@ same-report p2 {t} {r} {e} {t′} {r′} p q z =
 pub same-answer : (img buf : List ℕ) {a b : Answer} → a ≡ b → outcome a img buf ≡ outcome b img buf
 same-answer img buf e = ap (λ (x : Answer). outcome x img buf) e
 
--- the session's new place, and the image's new bytes, by equal numbers
+-- the session's new place, by equal numbers
 pub same-file : (s : Session) {t : Session} {i i′ : ℕ} → t ≡ placed s (OnFile i) → i ≡ i′ → t ≡ placed s (OnFile i′)
 same-file s e n = e ∙ ap (λ (x : ℕ). placed s (OnFile x)) n
-
-pub same-record : (s : Session) (i : ℕ) {t : Session} {k : ℕ} {xs ys : List ℕ} → xs ≡ ys → k ≡ count xs → t ≡ placed s (OnRecord i (k + 1))
-    → t ≡ placed s (OnRecord i (count ys + 1))
-same-record s i x n e = e ∙ ap (λ (k : ℕ). placed s (OnRecord i (k + 1))) (n ∙ ap count x)
-
-pub same-update : (img : List ℕ) (o : ℕ) {new : List ℕ} {k k′ : ℕ} {l l′ : List ℕ} → new ≡ updateIn img k o l → k ≡ k′ → l ≡ l′ → new ≡ updateIn img k′ o l′
-same-update img o e n x = e ∙ ap₂ (λ (k : ℕ) (l : List ℕ). updateIn img k o l) n x

@@ -22,7 +22,7 @@ use Rattle.found.specs.Found.{hits, reply, foundLength}
 use Rattle.found.proofs.Matching.{hits-length}
 use Rattle.found.proofs.Listing.{found-length, reply-whole}
 use Rattle.found.proofs.Listing.{found-bound}
-use Rattle.machine.specs.Outcome.{says}
+use Rattle.effects.specs.Outcome.{says}
 use Rattle.machine.specs.Effects.{hitsOf, foundOf, sought}
 use Rattle.machine.proofs.Reaching.{first-list, list-few}
 

@@ -47,7 +47,7 @@ use Rattle.found.specs.Found.{isMatch, matchingTo, matching, hits, kept, listed
 use Rattle.joined.specs.Joined.{joined as joined-records, recordsData}
 use Rattle.report.specs.Report.{capacity, further, total, remaining, existing, asked, reportData}
 use Rattle.machine.specs.Effects.{hitsOf, foundOf, sought, done}
-use Rattle.machine.specs.Outcome.{word, says}
+use Rattle.effects.specs.Outcome.{word, says}
 use Rattle.machine.specs.Step.{taken, step, opening}
 
 -- "Sections 0101, 0102, 011A, each L = 40": the first with records, free bytes zero

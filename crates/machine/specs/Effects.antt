@@ -19,7 +19,7 @@ use Rattle.session.specs.declared.Place.the-variants.{File as OnFile, Record as
 use Rattle.session.specs.declared.Session.{Session}
 use Rattle.decision.specs.declared.Decision.{Decision}
 use Rattle.decision.specs.declared.Decision.the-variants.{Status, Enter, Choose, Bytes, Write, Activate, Append, Read, Seek, Report}
-use Rattle.machine.specs.Outcome.{Outcome, says}
+use Rattle.effects.specs.Outcome.{Outcome, says}
 
 -- the numbers of the records that a search lists
 unfoldable pub hitsOf : List ℕ → List ℕ → Rule → Search → List ℕ

@@ -1,4 +1,3 @@
 -- The command machine: what one call does.
-pub mod Outcome
 pub mod Effects
 pub mod Step

@@ -8,9 +8,9 @@ use Rattle.session.specs.declared.Session.{Session}
 use Rattle.session.specs.declared.Refusal.{Refusal}
 use Rattle.session.specs.declared.Refusal.the-variants.{Taken, ShortBuffer, BadImage, BadRights, BadSession}
 use Rattle.commands.specs.Decide.{decide, dataOf}
-use Rattle.machine.specs.Outcome.{Outcome, outcome, refused}
+use Rattle.effects.specs.Outcome.{Outcome, outcome, refused}
 use Rattle.machine.specs.Effects.{done}
-use Rattle.machine.specs.declared.Answer.{Answer}
+use Rattle.effects.specs.declared.Answer.{Answer}
 
 -- a refusal touches nothing; a command that is taken does what is decided
 unfoldable pub taken : Refusal → List ℕ → Session → List ℕ → List ℕ → Outcome

@@ -2,14 +2,13 @@
 use apdu::Apdu;
 use bodies::rules::Rule;
 use decision::Decision;
+use effects::Answer;
 use files::File;
-use records::body;
 use session::Place;
 use session::Refusal;
 use session::Session;
 use store::image;
 use templates::Search;
-use templates::Writes;
 ghost use mathlib.Core.Path.{_≡_};
 ghost use mathlib.Core.Bool.{true};
 ghost use mathlib.Core.List.{[]};
@@ -17,22 +16,13 @@ ghost use Prim.Native.Nat.{_+_, _≤_};
 ghost use lib.ListN.{length};
 ghost use Rattle.base.specs.Bytes.{put};
 ghost use Rattle.store.specs.Image.{wellFormed};
-ghost use Rattle.decision.specs.declared.Decision.the-variants.{Seek, Read, Report, Bytes as ReadOf, Write as WriteTo, Activate as ActivateOf, Append as AppendTo};
+ghost use Rattle.decision.specs.declared.Decision.the-variants.{Seek, Read, Report, Bytes as ReadOf};
 ghost use Rattle.files.specs.Files.{content};
-ghost use Rattle.session.specs.Session.{placed as placedAt, entered as enteredAt};
 ghost use Rattle.session.specs.declared.Refusal.the-variants.{Taken};
 ghost use Rattle.commands.proofs.Allowing.{Allowed};
-ghost use Rattle.machine.specs.Outcome.{outcome, word, answered, refused as refusedAs};
+ghost use Rattle.effects.specs.Outcome.{outcome, word, answered, refused as refusedAs};
 ghost use Rattle.machine.specs.Effects.{sought, done};
 ghost use Rattle.machine.specs.Step.{taken as takenAs, step, opening};
-
-// What a call answers.
-pub struct Answer {
-    pub refusal: Refusal,
-    pub length: usize,
-    pub status: usize,
-    pub session: Session,
-}
 
 // Opens a session with the rights of three certificates.
 pub fn open(certificates: &[u8]) -> Answer
@@ -63,36 +53,12 @@ fn finish(s: Session, w: usize, n: usize, response: &mut [u8]) -> Answer
     requires { ⌜ n ≤ 2048 ⌝ }
     ensures { λ r. ⌜ (r ≡ answered n w s) × (now (response .exit) ≡ put (now (response .entry)) n (word w)) ⌝ }
 {
-    let sw = [(w / 256 % 256) as u8, (w % 256) as u8];
-    base::put(response, n, &sw);
+    effects::put_word(response, n, w);
     Answer {
         refusal: Refusal::Taken,
         length: n + 2,
         status: w,
         session: s,
-    }
-}
-
-// The session at another place.
-fn placed(s: Session, place: Place) -> Session
-    ensures { λ t. ⌜ t ≡ placedAt s place ⌝ }
-{
-    let rights = s.rights;
-    Session {
-        rights,
-        application: s.application,
-        place,
-    }
-}
-
-fn entered(s: Session, application: usize) -> Session
-    ensures { λ t. ⌜ t ≡ enteredAt s application ⌝ }
-{
-    let rights = s.rights;
-    Session {
-        rights,
-        application,
-        place: Place::Nothing,
     }
 }
 
@@ -116,14 +82,19 @@ fn seek(
     let h = found::search(image::body(image, r.kind), q.offset, q.number, text, q.one);
     let n = h.n;
     if n == 0 {
-        return finish(s, 0x6282, 0, response);
+        return effects::only(s, 0x6282, response);
     }
     if ne < found::found_length(file.len(), n) {
-        return finish(s, 0x6700, 0, response);
+        return effects::only(s, 0x6700, response);
     }
     let first = found::first(h);
     let k = found::put_found(response, file, h);
-    finish(placed(s, Place::Record(r.id, first)), 0x9000, k, response)
+    finish(
+        effects::placed(s, Place::Record(r.id, first)),
+        0x9000,
+        k,
+        response,
+    )
 }
 
 // READ RECORD.
@@ -156,57 +127,23 @@ fn bytes(image: &[u8], s: Session, f: File, o: usize, n: usize, response: &mut [
     finish(session::set_file(s, f), 0x9000, n, response)
 }
 
-// UPDATE BINARY.
-fn write(
-    image: &mut [u8],
-    s: Session,
-    f: File,
-    w: Writes,
-    data: &[u8],
-    response: &mut [u8],
-) -> Answer
-    ensures { λ x. ⌜ outcome x (now (image .exit)) (now (response .exit)) ≡ done (WriteTo f w) (now (image .entry)) s (now («data» .entry)) (now (response .entry)) ⌝ }
-{
-    let p = w.bytes;
-    image::update(
-        image,
-        files::kind_of(f),
-        w.offset,
-        base::part(data, p.at, p.len),
-    );
-    finish(session::set_file(s, f), 0x9000, 0, response)
-}
-
-// ACTIVATE.
-fn activate(image: &mut [u8], s: Session, f: File, response: &mut [u8]) -> Answer
-    ensures { λ x. ⌜ outcome x (now (image .exit)) (now (response .exit)) ≡ done (ActivateOf f) (now (image .entry)) s [] (now (response .entry)) ⌝ }
-{
-    image::activate(image, files::kind_of(f));
-    finish(s, 0x9000, 0, response)
-}
-
-// APPEND RECORD.
-fn append(image: &mut [u8], s: Session, r: Rule, data: &[u8], response: &mut [u8]) -> Answer
-    ensures { λ x. ⌜ outcome x (now (image .exit)) (now (response .exit)) ≡ done (AppendTo r) (now (image .entry)) s (now («data» .entry)) (now (response .entry)) ⌝ }
-{
-    let n = body::count(image::body(image, r.kind));
-    image::append(image, r.kind, data);
-    finish(placed(s, Place::Record(r.id, n + 1)), 0x9000, 0, response)
-}
-
 // Carries out what is decided.
 fn apply(image: &mut [u8], s: Session, d: Decision, data: &[u8], response: &mut [u8]) -> Answer
     requires { ⌜ (wellFormed (now image) ≡ true) × (2050 ≤ length (now response)) × Allowed (now image) s (now «data») d ⌝ }
     ensures { λ a. ⌜ outcome a (now (image .exit)) (now (response .exit)) ≡ done d (now (image .entry)) s (now («data» .entry)) (now (response .entry)) ⌝ }
 {
     match d {
-        Decision::Status(w) => finish(s, w, 0, response),
-        Decision::Enter(a) => finish(entered(s, a), 0x9000, 0, response),
-        Decision::Choose(f) => finish(placed(s, Place::File(files::id_of(f))), 0x9000, 0, response),
+        Decision::Status(w) => effects::only(s, w, response),
+        Decision::Enter(a) => effects::only(effects::entered(s, a), 0x9000, response),
+        Decision::Choose(f) => effects::only(
+            effects::placed(s, Place::File(files::id_of(f))),
+            0x9000,
+            response,
+        ),
         Decision::Bytes(f, o, n) => bytes(image, s, f, o, n, response),
-        Decision::Write(f, w) => write(image, s, f, w, data, response),
-        Decision::Activate(f) => activate(image, s, f, response),
-        Decision::Append(r) => append(image, s, r, data, response),
+        Decision::Write(f, w) => effects::write(image, s, f, w, data, response),
+        Decision::Activate(f) => effects::activate(image, s, f, response),
+        Decision::Append(r) => effects::append(image, s, r, data, response),
         Decision::Read(r, a, b) => read(image, s, r, a, b, response),
         Decision::Seek(r, q, ne) => seek(image, s, r, q, ne, data, response),
         Decision::Report(f, p2) => report(image, s, f, p2, response),
@@ -219,7 +156,7 @@ fn taken(image: &mut [u8], s: Session, command: &[u8], response: &mut [u8]) -> A
     ensures { λ a. ⌜ outcome a (now (image .exit)) (now (response .exit)) ≡ takenAs Taken (now (image .entry)) s (now (command .entry)) (now (response .entry)) ⌝ }
 {
     match apdu::shape(command) {
-        Apdu::Bad => finish(s, 0x6700, 0, response),
+        Apdu::Bad => effects::only(s, 0x6700, response),
         Apdu::Good(f) => {
             let data = base::part(command, f.from, f.lc);
             let d = commands::by_class(image, s, f, data);

@@ -3,9 +3,9 @@ use Prim.Native.Nat.{ℕ}
 use mathlib.Core.Path.{_≡_, ap, ap₂, _∙_}
 use mathlib.Core.List.{List}
 use Rattle.session.specs.declared.Session.{Session}
-use Rattle.machine.specs.Outcome.{outcome}
+use Rattle.effects.specs.Outcome.{outcome}
 use Rattle.machine.specs.Step.{step}
-use Rattle.machine.specs.declared.Answer.{Answer}
+use Rattle.effects.specs.declared.Answer.{Answer}
 use Rattle.layout.specs.Layout.{sessionOf}
 use Rattle.malquindo.specs.Face.{resultOf, sessionAfter, calledAs, calledBy, called}
 

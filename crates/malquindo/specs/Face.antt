@@ -9,7 +9,7 @@ use Rattle.session.specs.Refusals.{numberOf}
 use Rattle.session.specs.declared.Session.{Session}
 use Rattle.session.specs.declared.Refusal.{Refusal}
 use Rattle.session.specs.declared.Refusal.the-variants.{Taken, ShortBuffer, BadImage, BadRights, BadSession}
-use Rattle.machine.specs.Outcome.{Outcome}
+use Rattle.effects.specs.Outcome.{Outcome}
 use Rattle.machine.specs.Step.{opening, step}
 use Rattle.layout.specs.Layout.{sessionBytes, sessionOf}
 

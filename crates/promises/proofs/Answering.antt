@@ -16,7 +16,7 @@ use Rattle.session.specs.declared.Session.{Session}
 use Rattle.session.specs.declared.Refusal.{Refusal}
 use Rattle.session.specs.declared.Refusal.the-variants.{Taken, ShortBuffer, BadImage, BadRights, BadSession}
 use Rattle.commands.specs.Decide.{decide, dataOf}
-use Rattle.machine.specs.Outcome.{word, says}
+use Rattle.effects.specs.Outcome.{word, says}
 use Rattle.machine.specs.Effects.{done}
 use Rattle.machine.specs.Step.{taken, step}
 use Rattle.machine.proofs.Carrying.{Known, known}

@@ -44,7 +44,7 @@ use Rattle.decision.specs.declared.Decision.the-variants.{Status, Enter, Choose
 use Rattle.commands.proofs.Allowing.{From, FromShape, decide-from}
 use Rattle.found.specs.Found.{matching, hits}
 use Rattle.found.proofs.Matching.{first-match, hits-first, none-hits}
-use Rattle.machine.specs.Outcome.{Outcome, says}
+use Rattle.effects.specs.Outcome.{Outcome, says}
 use Rattle.machine.specs.Effects.{hitsOf, sought, done}
 use Rattle.machine.specs.Step.{taken, step, opening}
 use Rattle.promises.specs.Calls.{Command, next, after, history}

@@ -37,7 +37,7 @@ use Rattle.commands.specs.Decide.{decide, dataBy, dataOf}
 use Rattle.decision.specs.declared.Decision.{Decision}
 use Rattle.decision.specs.declared.Decision.the-variants.{Status, Enter, Choose, Bytes, Write, Activate, Append, Read, Seek, Report}
 use Rattle.commands.proofs.Allowing.{Pair, Appends, Writable, From, FromShape, decide-from}
-use Rattle.machine.specs.Outcome.{Outcome, says}
+use Rattle.effects.specs.Outcome.{Outcome, says}
 use Rattle.machine.specs.Effects.{sought, done}
 use Rattle.machine.specs.Step.{taken, step}
 use Rattle.promises.specs.Calls.{Call, Open, Command, next, after, isPair, fileOf, addedBy, added, additions, history}

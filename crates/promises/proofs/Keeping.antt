@@ -16,7 +16,7 @@ use Rattle.session.proofs.Steps.{in-order}
 use Rattle.commands.specs.Decide.{decide, dataOf}
 use Rattle.decision.specs.declared.Decision.{Decision}
 use Rattle.decision.specs.declared.Decision.the-variants.{Status, Enter, Choose, Bytes, Write, Activate, Append, Read, Seek, Report}
-use Rattle.machine.specs.Outcome.{outcome, refused, word, says}
+use Rattle.effects.specs.Outcome.{outcome, refused, word, says}
 use Rattle.machine.specs.Effects.{sought, done}
 use Rattle.machine.specs.Step.{taken, step}
 use Rattle.promises.specs.Promises.{Kept, Says-no}

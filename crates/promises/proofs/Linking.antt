@@ -30,10 +30,10 @@ use Rattle.decision.specs.declared.Decision.the-variants.{Status, Enter, Choose
 use Rattle.commands.proofs.Allowing.{From, FromShape, decide-from, reference-short, bytes-part}
 use Rattle.joined.proofs.Joining.{records-bound}
 use Rattle.report.proofs.Reporting.{report-bound}
-use Rattle.machine.specs.Outcome.{Outcome, says}
+use Rattle.effects.specs.Outcome.{Outcome, says}
 use Rattle.machine.specs.Effects.{sought, done}
 use Rattle.machine.specs.Step.{taken, step, opening}
-use Rattle.machine.specs.declared.Answer.{Answer}
+use Rattle.effects.specs.declared.Answer.{Answer}
 use Rattle.machine.proofs.Seeking.{found-short}
 use Rattle.layout.specs.Layout.{sessionBytes, sessionOf}
 use Rattle.layout.proofs.Laws.{Storable, read-back, fits-storable, fits-session}

@@ -32,7 +32,7 @@ use Rattle.commands.proofs.Allowing.{Pair, From, FromShape, ReadBy, decide-from
 use Rattle.joined.specs.Joined.{recordsData}
 use Rattle.joined.proofs.Joining.{joined-one}
 use Rattle.joined.proofs.Joining.{records-bound}
-use Rattle.machine.specs.Outcome.{Outcome, says}
+use Rattle.effects.specs.Outcome.{Outcome, says}
 use Rattle.machine.specs.Effects.{done}
 use Rattle.machine.specs.Step.{step}
 use Rattle.promises.specs.Calls.{after, isPair, history}

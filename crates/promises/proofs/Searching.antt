@@ -28,7 +28,7 @@ use Rattle.decision.specs.declared.Decision.the-variants.{Seek}
 use Rattle.commands.proofs.Allowing.{Allowed, decide-allowed}
 use Rattle.found.specs.Found.{matching, hits}
 use Rattle.found.proofs.Matching.{Up, matching-sound, matching-complete, matching-ascends, first-match, none-hits, hits-none}
-use Rattle.machine.specs.Outcome.{Outcome, says}
+use Rattle.effects.specs.Outcome.{Outcome, says}
 use Rattle.machine.specs.Effects.{hitsOf, foundOf, sought, done}
 use Rattle.machine.specs.Step.{step}
 use Rattle.machine.proofs.Seeking.{found-short, sought-none, sought-over, sought-found}

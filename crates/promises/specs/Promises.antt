@@ -28,9 +28,9 @@ use Rattle.commands.specs.Decide.{decide, dataOf}
 use Rattle.decision.specs.declared.Decision.the-variants.{Seek}
 use Rattle.joined.specs.Joined.{recordsData}
 use Rattle.found.specs.Found.{foundData}
-use Rattle.machine.specs.Outcome.{Outcome}
+use Rattle.effects.specs.Outcome.{Outcome}
 use Rattle.machine.specs.Step.{step, opening}
-use Rattle.machine.specs.declared.Answer.{Answer}
+use Rattle.effects.specs.declared.Answer.{Answer}
 use Rattle.layout.specs.Layout.{sessionOf}
 use Rattle.malquindo.specs.Face.{openSession, called}
 use Rattle.promises.specs.Calls.{Call, after, isPair, history}

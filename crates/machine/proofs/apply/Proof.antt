@@ -1,27 +1,17 @@
 -- `machine::apply` meets its contract.
 use mathlib.Core.Path.{refl}
-use Rattle.machine.proofs.Saying.{said-only, same-file}
+use Rattle.effects.proofs.Saying.{said-only}
+use Rattle.machine.proofs.Saying.{same-file}
 use Rattle.machine.specs.Effects.{done}
 use borrow.Author.Needs.{needs}
 use Rattle.machine.proofs.apply.Statement.{statement}
 use Rattle.machine.proofs.apply.Tie as tie
-use Rattle.files.proofs.id_of.Reads as id-of-reads
-use Rattle.machine.proofs.activate.Reads as activate-reads
-use Rattle.machine.proofs.append.Reads as append-reads
-use Rattle.machine.proofs.bytes.Reads as bytes-reads
-use Rattle.machine.proofs.entered.Reads as entered-reads
-use Rattle.machine.proofs.finish.Reads as finish-reads
-use Rattle.machine.proofs.placed.Reads as placed-reads
-use Rattle.machine.proofs.read.Reads as read-reads
-use Rattle.machine.proofs.report.Reads as report-reads
-use Rattle.machine.proofs.seek.Reads as seek-reads
-use Rattle.machine.proofs.write.Reads as write-reads
 
 enum-known-d : tie.Need-enum-known-d
 enum-known-d c = search needs
 
-finish-requires : tie.Need-finish-requires
-finish-requires c κs = search needs
+only-requires : tie.Need-only-requires
+only-requires c κs = search needs
 
 enum-known-d-2 : tie.Need-enum-known-d-2
 enum-known-d-2 c = search needs
@@ -29,8 +19,8 @@ enum-known-d-2 c = search needs
 entered-requires : tie.Need-entered-requires
 entered-requires c κs = search needs
 
-finish-requires-2 : tie.Need-finish-requires-2
-finish-requires-2 c κs = search needs
+only-requires-2 : tie.Need-only-requires-2
+only-requires-2 c κs = search needs
 
 enum-known-d-3 : tie.Need-enum-known-d-3
 enum-known-d-3 c = search needs
@@ -41,8 +31,8 @@ id-of-requires c κs = search needs
 placed-requires : tie.Need-placed-requires
 placed-requires c κs = search needs
 
-finish-requires-3 : tie.Need-finish-requires-3
-finish-requires-3 c κs = search needs
+only-requires-3 : tie.Need-only-requires-3
+only-requires-3 c κs = search needs
 
 enum-known-d-4 : tie.Need-enum-known-d-4
 enum-known-d-4 c = search needs
@@ -91,21 +81,21 @@ same-length c = search needs
 
 returns : tie.Need-returns
 unfolding done
-returns c = rw (c .before .before .before .before .before .d .given .1) (said-only _ _ _ _ refl refl (c .before .before .finish .ensures))
+returns c = rw (c .before .before .before .before .before .d .given .1) (said-only _ _ _ _ refl refl (c .before .before .only .ensures))
 
 same-length-2 : tie.Need-same-length-2
 same-length-2 c = search needs
 
 returns-2 : tie.Need-returns-2
 unfolding done
-returns-2 c = rw (c .before .before .before .before .before .before .d2 .given .1) (said-only _ _ _ _ (c .before .before .before .before .entered .ensures) refl (c .before .before .finish2 .ensures))
+returns-2 c = rw (c .before .before .before .before .before .before .d2 .given .1) (said-only _ _ _ _ (c .before .before .before .before .entered .ensures) refl (c .before .before .only2 .ensures))
 
 same-length-3 : tie.Need-same-length-3
 same-length-3 c = search needs
 
 returns-3 : tie.Need-returns-3
 unfolding done
-returns-3 c = rw (c .before .before .before .before .before .before .before .d3 .given .1) (said-only _ _ _ _ (same-file (c .before .before .before .before .before .before .before .before .before .before .before .before .args .s) (c .before .before .before .before .placed .ensures) (c .before .before .before .before .before .id-of .ensures)) refl (c .before .before .finish3 .ensures))
+returns-3 c = rw (c .before .before .before .before .before .before .before .d3 .given .1) (said-only _ _ _ _ (same-file (c .before .before .before .before .before .before .before .before .before .before .before .before .args .s) (c .before .before .before .before .placed .ensures) (c .before .before .before .before .before .id-of .ensures)) refl (c .before .before .only3 .ensures))
 
 same-length-4 : tie.Need-same-length-4
 same-length-4 c = search needs
@@ -182,14 +172,14 @@ apply-spec =
     tie.close
     (tie.spec
     enum-known-d
-    finish-requires
+    only-requires
     enum-known-d-2
     entered-requires
-    finish-requires-2
+    only-requires-2
     enum-known-d-3
     id-of-requires
     placed-requires
-    finish-requires-3
+    only-requires-3
     enum-known-d-4
     bytes-requires
     enum-known-d-5

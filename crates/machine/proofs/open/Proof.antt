@@ -3,7 +3,7 @@ use mathlib.Core.Path.{ap₂}
 use borrow.Author.Needs.{needs}
 use Rattle.session.specs.declared.Session.{Session}
 use Rattle.session.specs.declared.Refusal.{Refusal}
-use Rattle.machine.specs.Outcome.{refused}
+use Rattle.effects.specs.Outcome.{refused}
 use Rattle.machine.specs.Step.{opening}
 use Rattle.machine.proofs.open.Statement.{statement}
 use Rattle.machine.proofs.open.Tie as tie

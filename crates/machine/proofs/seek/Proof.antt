@@ -7,7 +7,8 @@ use borrow.Author.Needs.{needs}
 use Rattle.writer.proofs.Writings.{wrote}
 use Rattle.session.specs.Session.{placed}
 use Rattle.session.specs.declared.Place.the-variants.{Record as OnRecord}
-use Rattle.machine.proofs.Saying.{said, said-only, stored}
+use Rattle.effects.proofs.Saying.{said-only}
+use Rattle.machine.proofs.Saying.{said, stored}
 use Rattle.machine.proofs.Seeking.{same-hits, reply-found, found-short, length-known, sought-none, sought-over, sought-found, some}
 use Rattle.machine.proofs.seek.Statement.{statement}
 use Rattle.machine.proofs.seek.Tie as tie
@@ -24,8 +25,8 @@ body-requires c κs = search needs
 search-requires : tie.Need-search-requires
 search-requires c κs = search needs
 
-finish-requires : tie.Need-finish-requires
-finish-requires c κs = search needs
+only-requires : tie.Need-only-requires
+only-requires c κs = search needs
 
 same-length : tie.Need-same-length
 same-length c = search needs
@@ -35,14 +36,14 @@ returns c =
     let a = c .before .before .before .before .before .before .before .before .before .before .before .before .before .before .args in
     let p = c .before .before .before .before .before .before .before .before .before .before .before .before .before .before .pre in
     let h = same-hits _ _ _ (a .r) (a .q) (p .0) (p .2 .0) (c .before .before .before .before .before .before .body .ensures) (c .before .before .before .before .before .before .before .before .part .ensures) in
-    said-only _ _ _ _ refl refl (c .before .before .finish .ensures)
+    said-only _ _ _ _ refl refl (c .before .before .only .ensures)
     ∙ sym (sought-none _ _ _ _ (a .r) (a .q) (a .ne) (sym (c .before .before .before .before .before .search .ensures .1 ∙ ap length h) ∙ c .before .before .before .before .if1 .taken))
 
 found-length-requires : tie.Need-found-length-requires
 found-length-requires c κs = search needs
 
-finish-requires-2 : tie.Need-finish-requires-2
-finish-requires-2 c κs = search needs
+only-requires-2 : tie.Need-only-requires-2
+only-requires-2 c κs = search needs
 
 same-length-2 : tie.Need-same-length-2
 same-length-2 c = search needs
@@ -54,7 +55,7 @@ returns-2 c =
     let h = same-hits _ _ _ (a .r) (a .q) (p .0) (p .2 .0) (c .before .before .before .before .before .before .before .before .body .ensures) (c .before .before .before .before .before .before .before .before .before .before .part .ensures) in
     let e = c .before .before .before .before .before .before .before .search .ensures .1 ∙ ap length h in
     let l = length-known _ _ _ (a .r) (a .q) (p .0) (p .2 .0) (p .2 .1) (c .before .before .before .before .before .before .before .before .before .part2 .ensures) e in
-    said-only _ _ _ _ refl refl (c .before .before .finish2 .ensures)
+    said-only _ _ _ _ refl refl (c .before .before .only2 .ensures)
     ∙ sym (sought-over _ _ _ _ (a .r) (a .q) (a .ne) (some e (c .before .before .before .before .before .before .if1 .left)) (rw (c .before .before .before .before .before .found-length .ensures ∙ l) at (c .before .before .before .before .if2 .taken)))
 
 first-requires : tie.Need-first-requires
@@ -66,8 +67,8 @@ put-found-requires c κs = search needs
 placed-requires : tie.Need-placed-requires
 placed-requires c κs = search needs
 
-finish-requires-3 : tie.Need-finish-requires-3
-finish-requires-3 c κs =
+finish-requires : tie.Need-finish-requires
+finish-requires c κs =
     let a = c .before .before .before .before .before .before .before .before .before .before .before .before .before .before .before .before .before .before .before .args in
     let p = c .before .before .before .before .before .before .before .before .before .before .before .before .before .before .before .before .before .before .before .pre in
     let h = same-hits _ _ _ (a .r) (a .q) (p .0) (p .2 .0) (c .before .before .before .before .before .before .before .before .before .before .before .body .ensures) (c .before .before .before .before .before .before .before .before .before .before .before .before .before .part .ensures) in
@@ -89,7 +90,7 @@ returns-3 c =
     let m = found-short _ _ _ (a .r) (a .q) (p .0) (p .2 .0) (p .2 .1) in
     let g = reply-found _ _ _ (a .r) (a .q) (p .0) (p .2 .0) (p .2 .1) (c .before .before .before .before .before .before .before .before .before .before .before .before .before .before .before .part2 .ensures) ns in
     let t = c .before .before .before .before .placed .ensures ∙ ap (λ (k : ℕ). placed (a .s) (OnRecord (a .r .id) k)) (c .before .before .before .before .before .before .before .before .before .first .ensures ∙ ap (λ (x : List ℕ). getD x 0 0) ns) in
-    said 0x9000 _ _ _ _ m (p .1) t (stored _ _ m (p .1) (wrote _ _ g (c .before .before .before .before .before .before .before .put-found .ensures))) (c .before .before .finish3 .ensures)
+    said 0x9000 _ _ _ _ m (p .1) t (stored _ _ m (p .1) (wrote _ _ g (c .before .before .before .before .before .before .before .put-found .ensures))) (c .before .before .finish .ensures)
     ∙ sym (sought-found _ _ _ _ (a .r) (a .q) (a .ne) (some e (c .before .before .before .before .before .before .before .before .before .before .before .before .if1 .left)) (rw (c .before .before .before .before .before .before .before .before .before .before .before .found-length .ensures ∙ l) at (c .before .before .before .before .before .before .before .before .before .before .if2 .left)))
 
 pub seek-spec : {M : Type 1} → statement M
@@ -100,16 +101,16 @@ seek-spec =
     part-requires-2
     body-requires
     search-requires
-    finish-requires
+    only-requires
     same-length
     returns
     found-length-requires
-    finish-requires-2
+    only-requires-2
     same-length-2
     returns-2
     first-requires
     put-found-requires
     placed-requires
-    finish-requires-3
+    finish-requires
     same-length-3
     returns-3)

@@ -4,7 +4,7 @@ use borrow.Author.Needs.{needs}
 use Rattle.machine.proofs.Carrying.{slice-bytes, same-done, decided-bad, decided, data-of, allowed}
 use Rattle.machine.specs.Effects.{done}
 use Rattle.machine.specs.Step.{taken}
-use Rattle.machine.proofs.Saying.{said-only}
+use Rattle.effects.proofs.Saying.{said-only}
 use Rattle.machine.proofs.taken.Statement.{statement}
 use Rattle.machine.proofs.taken.Tie as tie
 
@@ -14,8 +14,8 @@ shape-requires c κs = search needs
 enum-told : tie.Need-enum-told
 enum-told c = search needs
 
-finish-requires : tie.Need-finish-requires
-finish-requires c κs = search needs
+only-requires : tie.Need-only-requires
+only-requires c κs = search needs
 
 enum-known-f : tie.Need-enum-known-f
 enum-known-f c = search needs
@@ -39,7 +39,7 @@ returns : tie.Need-returns
 unfolding taken done
 returns c =
     let e = sym (c .before .before .before .before .before .before .shape .ensures) ∙ c .before .before .before .before .enum-told .given .1 in
-    rw (decided-bad _ _ _ e) (said-only _ _ _ _ refl refl (c .before .before .finish .ensures))
+    rw (decided-bad _ _ _ e) (said-only _ _ _ _ refl refl (c .before .before .only .ensures))
 
 same-length-2 : tie.Need-same-length-2
 same-length-2 c = search needs
@@ -61,7 +61,7 @@ taken-spec =
     (tie.spec
     shape-requires
     enum-told
-    finish-requires
+    only-requires
     enum-known-f
     part-requires
     by-class-requires

@@ -7,7 +7,7 @@ use Rattle.base.specs.Bytes.{put}
 use Rattle.session.specs.declared.Session.{Session}
 use Rattle.session.specs.declared.Refusal.{Refusal}
 use Rattle.session.specs.declared.Refusal.the-variants.{Taken}
-use Rattle.machine.specs.declared.Answer.{Answer}
+use Rattle.effects.specs.declared.Answer.{Answer}
 
 -- an answer, and every byte of image and response buffer afterwards
 pub record Outcome : Type 0 where

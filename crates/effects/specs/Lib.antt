@@ -1,0 +1,2 @@
+-- What is answered.
+pub mod Outcome
