@@ -1,4 +1,5 @@
-/* Document 01's card to try: selects travel (m1), appends a record (m2), reads it back (m4). */
+/* Document 01's card to try: selects travel (m1), appends a record (m2), reads it back (m4); then carries the card to rooms
+ * of 100 bytes and reads the record there. */
 #include <stdio.h>
 #include "malquindo.h"
 
@@ -7,17 +8,25 @@ static uint8_t image[3 * 46] = {
     [46] = 40, [50] = 0x02, [51] = 0x01, /* 0102 ExitRecords */
     [92] = 40, [96] = 0x1A, [97] = 0x01, /* 011A travel certificates */
 };
+static uint8_t larger[3 * 106];
 static uint8_t session[25];
 static uint8_t response[2050];
 
-static int run(const uint8_t *command, size_t command_len)
+static int run(uint8_t *card, size_t card_len, const uint8_t *command, size_t command_len)
 {
-    uint64_t result = malquindo_command(image, sizeof image, session, sizeof session,
+    uint64_t result = malquindo_command(card, card_len, session, sizeof session,
                                         command, command_len, response, sizeof response);
     for (size_t i = 0; i < malquindo_length(result); i++)
         printf("%02X", response[i]);
     printf("\n");
     return malquindo_status(result) != 0x9000;
+}
+
+static int carry(void)
+{
+    static const uint8_t rooms[] = {100, 0, 0, 0, 0x01, 0x01, 100, 0, 0, 0, 0x02, 0x01, 100, 0, 0, 0, 0x1A, 0x01};
+    uint64_t result = malquindo_move(image, sizeof image, rooms, sizeof rooms, larger, sizeof larger);
+    return malquindo_refusal(result) != 0 || malquindo_moved(result) != sizeof larger;
 }
 
 int main(void)
@@ -31,5 +40,6 @@ int main(void)
     if (malquindo_session_len() != sizeof session
         || malquindo_open(rights, sizeof rights, session, sizeof session) != 0)
         return 1;
-    return run(m1, sizeof m1) || run(m2, sizeof m2) || run(m4, sizeof m4);
+    return run(image, sizeof image, m1, sizeof m1) || run(image, sizeof image, m2, sizeof m2)
+        || run(image, sizeof image, m4, sizeof m4) || carry() || run(larger, sizeof larger, m4, sizeof m4);
 }

@@ -43,13 +43,16 @@ def says(line, *lines):
     stdout.extend(lines)
 
 
-def shown(*records):
+def shown(*records, rooms=(40, 40, 40), visa=()):
     used = 2 + sum(2 + len(r) // 2 for r in records)
-    return ["card image of 138 bytes", " travel",
-            f"  EntryRecords            records {len(records)} of 254, bytes left {40 - used}",
-            *(f"    {i + 1}: {spaced(r)}" for i, r in enumerate(records)),
-            "  ExitRecords             records 0 of 254, bytes left 38",
-            "  travel certificates     records 0 of 254, bytes left 38"]
+    files = [f"  EntryRecords            records {len(records)} of 254, bytes left {rooms[0] - used}",
+             *(f"    {i + 1}: {spaced(r)}" for i, r in enumerate(records)),
+             f"  ExitRecords             records 0 of 254, bytes left {rooms[1] - 2}",
+             f"  travel certificates     records 0 of 254, bytes left {rooms[2] - 2}"]
+    if visa:
+        files += [" visa", f"  VisaRecords             records 0 of 254, bytes left {visa[0] - 2}",
+                  f"  visa certificates       records 0 of 254, bytes left {visa[1] - 2}"]
+    return [f"card image of {sum(6 + room for room in (*rooms, *visa))} bytes", " travel", *files]
 
 
 RECORDS = ["5F4403555341", "5F4403465241", "".join(f"{i:02X}" for i in range(20))]
@@ -82,6 +85,22 @@ says("open " + "00" * 60, "= session opened")
 command("00A4040C07A0000002472001", "6982")
 says("open " + "FF" * 60, "= session opened")
 command("00A4040C07A0000002472001", "9000")
+says("show", *shown(*RECORDS))
+
+# a move to larger rooms, to a file that is there then; one that adds an application; each that is refused; the card at hand stays
+MOVED = "= moved to a new file"
+says("move larger.card 0101 100 0102 50 011A 40", MOVED, *shown(*RECORDS, rooms=(100, 50, 40)))
+says("move larger.card 0101 100 0102 50 011A 40", "! the new card's file cannot be made, or is there already")
+says(" move  visa.card  0101 40\t0102 2 011a 40 0203 300 021A 200 # with visa", MOVED, *shown(*RECORDS, rooms=(40, 2, 40), visa=(300, 200)))
+says("move other.card 0102 40 0101 40 011A 40", "! refused (10): these rooms make no well-formed card")
+says("move other.card 0101 40 0102 40 011A 1", "! refused (10): these rooms make no well-formed card")
+says("move other.card 0101 40 0102 40 011A 262047", "! refused (10): these rooms make no well-formed card")
+says("move other.card", "! refused (11): a file of the card has no room")
+says("move other.card 0203 40 021A 40", "! refused (11): a file of the card has no room")
+says("move other.card 0101 39 0102 40 011A 40", "! refused (12): a room is too small for its file")
+for line in ("move", "move other.card 0101", "move other.card 0101 40 0102 40 011A forty", "move other.card 10101 40",
+             "move other.card 0101 4294967296"):
+    says(line, CANNOT + line)
 says("show", *shown(*RECORDS))
 
 # a last line that does not end

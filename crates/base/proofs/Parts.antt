@@ -46,14 +46,21 @@ drop-part xs a k n =
 unfoldable pub Agree : List ℕ → List ℕ → ℕ → ℕ → Type 0
 Agree xs ys a e = (p : ℕ) → a ≤ p → p < e → getD ys p 0 ≡ getD xs p 0
 
-pub part-agree : (xs ys : List ℕ) (a e p n : ℕ) → length ys ≡ length xs → Agree xs ys a e → a ≤ p → p + n ≤ e → part ys p n ≡ part xs p n
+-- parts of it that are as long
+agree-part : (xs ys : List ℕ) (a e p n : ℕ) → length (part ys p n) ≡ length (part xs p n) → Agree xs ys a e → a ≤ p → p + n ≤ e → part ys p n ≡ part xs p n
 unfolding Agree
-part-agree xs ys a e p n l g h k =
-    ext-getD 0 (part ys p n) (part xs p n)
-    (simp (length-take, length-drop, l))
+agree-part xs ys a e p n l g h k =
+    ext-getD 0 (part ys p n) (part xs p n) l
     (λ i b. let c = simp (length-take, length-drop) at b in
     let m : i < n = omega arith in
     getD-part ys p n i m ∙ g (p + i) (omega arith) (omega arith) ∙ sym (getD-part xs p n i m))
+
+-- in lists that are as long, and in lists that both hold the whole stretch
+pub part-agree : (xs ys : List ℕ) (a e p n : ℕ) → length ys ≡ length xs → Agree xs ys a e → a ≤ p → p + n ≤ e → part ys p n ≡ part xs p n
+part-agree xs ys a e p n l = agree-part xs ys a e p n (simp (length-take, length-drop, l))
+
+pub part-within : (xs ys : List ℕ) (a e p n : ℕ) → e ≤ length xs → e ≤ length ys → Agree xs ys a e → a ≤ p → p + n ≤ e → part ys p n ≡ part xs p n
+part-within xs ys a e p n i j g h k = agree-part xs ys a e p n (length-part ys p n (omega arith) ∙ sym (length-part xs p n (omega arith))) g h k
 
 -- ---- a part replaced by another of its length
 

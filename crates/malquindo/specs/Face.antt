@@ -12,6 +12,8 @@ use Rattle.session.specs.declared.Refusal.the-variants.{Taken, ShortBuffer, Bad
 use Rattle.effects.specs.Outcome.{Outcome}
 use Rattle.machine.specs.Step.{opening, step}
 use Rattle.layout.specs.Layout.{sessionBytes, sessionOf}
+use Rattle.moving.specs.declared.Moved.{Moved}
+use Rattle.moving.specs.declared.Moved.the-variants.{Image, Refused}
 
 -- "refusal · 2^32 + length · 2^16 + status". (Length and status are below 65,536.)
 unfoldable pub resultOf : Refusal → ℕ → ℕ → ℕ
@@ -53,3 +55,8 @@ calledBy ses o =
 -- one step of the machine, by the session that the bytes are
 unfoldable pub called : List ℕ → List ℕ → List ℕ → List ℕ → Called
 called img ses cmd buf = calledBy ses (step img (sessionOf ses) cmd buf)
+
+-- of a move: "refusal · 2^32 + the new image's length (0 on a refusal)". (That length is below 2^32.)
+abbrev pub moveResult : Moved → ℕ
+moveResult (Image n) = n
+moveResult (Refused w) = w * 4294967296

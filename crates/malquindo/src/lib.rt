@@ -1,11 +1,14 @@
 // The machine for C and for what links like C. include/malquindo.h declares these functions. Every function takes any bytes; what it is
 // lent must not overlap.
+use moving::Moved;
 use session::Refusal;
 use session::Session;
 ghost use mathlib.Core.Path.{_≡_};
 ghost use Prim.Native.Nat.{_≤_};
 ghost use Rattle.session.specs.Refusals.{numberOf};
-ghost use Rattle.malquindo.specs.Face.{resultOf, openRefused, openResult, openSession, sessionAfter, calledAs, called};
+ghost use lib.ListN.{length};
+ghost use Rattle.moving.specs.Moving.{carry, carryInto, Numbered};
+ghost use Rattle.malquindo.specs.Face.{moveResult, resultOf, openRefused, openResult, openSession, sessionAfter, calledAs, called};
 
 // The refusal's number; 0 where there is none.
 fn number_of(r: Refusal) -> u64
@@ -90,4 +93,24 @@ pub extern "C" fn malquindo_command(
     let s = a.session;
     keep(session, a.status, s);
     result(refusal, a.length, a.status)
+}
+
+// The number of a move's refusal or the new image's length, in one.
+fn move_result(m: Moved) -> u64
+    requires { ⌜ Numbered m ⌝ }
+    ensures { λ r. ⌜ r ≡ moveResult m ⌝ }
+{
+    match m {
+        Moved::Image(n) => n as u64,
+        Moved::Refused(w) => w as u64 * 4294967296,
+    }
+}
+
+// Carries a card to other rooms, into a target of its own.
+#[no_mangle]
+pub extern "C" fn malquindo_move(old: &[u8], list: &[u8], target: &mut [u8]) -> u64
+    ensures { λ r. ⌜ (r ≡ moveResult (carry (now (old .entry)) (now (list .entry)) (length (now (target .entry))))) × (now (target .exit) ≡ carryInto (now (old .entry)) (now (list .entry)) (now (target .entry))) ⌝ }
+{
+    let m = moving::carry(old, list, target);
+    move_result(m)
 }

@@ -40,8 +40,12 @@ use Rattle.commands.proofs.Allowing.{Pair, Appends, Writable, From, FromShape, 
 use Rattle.effects.specs.Outcome.{Outcome, says}
 use Rattle.machine.specs.Effects.{sought, done}
 use Rattle.machine.specs.Step.{taken, step}
-use Rattle.promises.specs.Calls.{Call, Open, Command, next, after, isPair, fileOf, addedBy, added, additions, history}
+use Rattle.moving.specs.Moving.{carry, carryInto}
+use Rattle.moving.specs.declared.Moved.{Moved}
+use Rattle.moving.specs.declared.Moved.the-variants.{Image, Refused}
+use Rattle.promises.specs.Calls.{Call, Open, Command, Move, goesOn, next, after, isPair, fileOf, addedBy, added, additions, history}
 use Rattle.promises.specs.Promises.{Holds, Number-kept}
+use Rattle.promises.proofs.Moving.{carries}
 
 -- an image that has lost no file, in which each record file has some records more
 pub record Grown (img new : List ℕ) (more : ℕ → List (List ℕ)) : Type 0 where
@@ -211,12 +215,24 @@ module _ (img : List ℕ) (s : Session) (cmd buf : List ℕ) (o : wellFormed img
   taken-grown BadRights = grown-none img o refl (refused-none (shapeOf cmd))
   taken-grown BadSession = grown-none img o refl (refused-none (shapeOf cmd))
 
+-- ---- a move
+
+move-grown : (img list t : List ℕ) → wellFormed img ≡ true → Grown img (goesOn (carry img list (length t)) (carryInto img list t) img) (λ k. [])
+move-grown img list t o = go (carry img list (length t)) refl
+  where
+    go : (m : Moved) → carry img list (length t) ≡ m → Grown img (goesOn m (carryInto img list t) img) (λ k. [])
+    go (Refused w) e = grown-none img o refl (λ k. refl)
+    go (Image n) e =
+        let c = carries img list t n e in
+        record { well = c .well; files = c .files; records = λ k b. c .records k b ∙ sym (append-nil (recordsOf img k)) }
+
 -- ---- calls, one after the other
 
 pub call-grown : (img : List ℕ) (c : Call) → wellFormed img ≡ true → Grown img (next img c) (λ k. added k img c)
 unfolding next added step
 call-grown img (Open rights) o = grown-none img o refl (λ k. refl)
 call-grown img (Command s cmd buf) o = taken-grown img s cmd buf o (refusal img s (length buf))
+call-grown img (Move list t) o = move-grown img list t o
 
 pub calls-held : Holds
 unfolding after additions history

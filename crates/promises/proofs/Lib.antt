@@ -1,6 +1,7 @@
 -- Proofs of the promises: the theorems are in Promises.
 pub mod Keeping
 pub mod Opening
+pub mod Moving
 pub mod Growing
 pub mod Answering
 pub mod Reading

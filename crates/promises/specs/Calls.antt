@@ -2,6 +2,7 @@
 use Prim.Native.Nat.{ℕ, _/_}
 use mathlib.Core.Bool.{Bool}
 use mathlib.Core.List.{List, [], _∷_, _++_}
+use lib.ListN.{length, take}
 use lib.Dec.{eqb}
 use Rattle.base.specs.Choice.{pick, every}
 use Rattle.base.specs.Bytes.{part}
@@ -18,16 +19,27 @@ use Rattle.apdu.specs.declared.Apdu.the-variants.{Bad, Good}
 use Rattle.apdu.specs.declared.Frame.{Frame}
 use Rattle.decision.specs.Tests.{orCurrent}
 use Rattle.machine.specs.Step.{step}
+use Rattle.moving.specs.Moving.{carry, carryInto}
+use Rattle.moving.specs.declared.Moved.{Moved}
+use Rattle.moving.specs.declared.Moved.the-variants.{Image, Refused}
 
--- an opening with the rights of three certificates, or a command with any session and any response buffer
+-- an opening with the rights of three certificates, a command with any session and any response buffer, or a move by a list of rooms into
+-- any target
 pub data Call : Type 0 where
   Open : List ℕ → Call
   Command : Session → List ℕ → List ℕ → Call
+  Move : List ℕ → List ℕ → Call
+
+-- the card goes on as the new image, which is the first bytes of the target t; where the move is refused it goes on as it was
+abbrev pub goesOn : Moved → List ℕ → List ℕ → List ℕ
+goesOn (Image n) t img = take n t
+goesOn (Refused w) t img = img
 
 -- the image after a call; opening has no image
 unfoldable pub next : List ℕ → Call → List ℕ
 next img (Open rights) = img
 next img (Command s cmd buf) = step img s cmd buf .image
+next img (Move list t) = goesOn (carry img list (length t)) (carryInto img list t) img
 
 -- the image after calls, one after the other
 unfoldable pub after : List ℕ → List Call → List ℕ
@@ -56,9 +68,11 @@ addedBy k img s cmd w (Good f) =
     (part cmd (f .from) (f .lc) ∷ [])
     []
 
+-- of a call; "the list of a file's records is unchanged" by a move
 unfoldable pub added : ℕ → List ℕ → Call → List (List ℕ)
 added k img (Open rights) = []
 added k img (Command s cmd buf) = addedBy k img s cmd (step img s cmd buf .answer .status) (shapeOf cmd)
+added k img (Move list t) = []
 
 -- "in order"
 unfoldable pub additions : ℕ → List ℕ → List Call → List (List ℕ)

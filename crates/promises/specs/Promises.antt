@@ -6,8 +6,9 @@ use mathlib.Core.List.{List, [], _∷_, _++_, List·Memᴰ}
 use lib.ListN.{length, take, drop, getD, replicate}
 use Rattle.base.specs.Bytes.{part}
 use Rattle.records.specs.Body.{nth}
+use Rattle.bodies.specs.Biometrics.{state, written, content}
 use Rattle.bodies.specs.Rules.{isBiometrics}
-use Rattle.store.specs.Image.{has, wellFormed, recordsOf}
+use Rattle.store.specs.Image.{has, wellFormed, body, recordsOf}
 use Rattle.bodies.specs.declared.rules.Rule.{Rule}
 use Rattle.objects.specs.Encoding.{Bytes}
 use Rattle.templates.specs.declared.Search.{Search}
@@ -33,6 +34,10 @@ use Rattle.machine.specs.Step.{step, opening}
 use Rattle.effects.specs.declared.Answer.{Answer}
 use Rattle.layout.specs.Layout.{sessionOf}
 use Rattle.malquindo.specs.Face.{openSession, called}
+use Rattle.moving.specs.Moving.{carry, carryInto, Numbered}
+use Rattle.moving.specs.declared.Moved.{Moved}
+use Rattle.moving.specs.declared.Moved.the-variants.{Image, Refused}
+use Rattle.carried.specs.Same.{heads, FreeZero}
 use Rattle.promises.specs.Calls.{Call, after, isPair, history}
 use Rattle.promises.specs.Matches.{Matches}
 
@@ -201,3 +206,49 @@ pub record Whole (result : ℕ) (a : Answer) : Type 0 where
 
 abbrev pub Result-whole : Type 0
 Result-whole = (img ses cmd buf : List ℕ) → Bytes cmd → Whole (called img ses cmd buf .result) (step img (sessionOf ses) cmd buf .answer)
+
+-- ---- 7. "Carry a card to a larger chip"
+
+-- a move that is refused: "with the target untouched"
+abbrev pub Move-says-no : Type 0
+Move-says-no = (old list t : List ℕ) (w : ℕ) → carry old list (length t) ≡ Refused w → carryInto old list t ≡ t
+
+-- a move into the target t that answers the length n of the new image
+pub record Carried (old list t : List ℕ) (n : ℕ) (new : List ℕ) : Type 0 where
+  -- the target is the new image, and "a longer target keeps its tail"
+  pub whole : carryInto old list t ≡ new ++ drop n t
+  pub size : length new ≡ n
+  pub well : wellFormed new ≡ true
+  -- "every file of the old one, all records under their old numbers"
+  pub files : (k : ℕ) → has old k ≡ true → has new k ≡ true
+  pub records : (k : ℕ) → isBiometrics k ≡ false → recordsOf new k ≡ recordsOf old k
+  -- "biometrics with state and w", and the bytes written
+  pub biometrics : (k : ℕ) → isBiometrics k ≡ true → has old k ≡ true
+      → (state (body new k) ≡ state (body old k)) × (written (body new k) ≡ written (body old k)) × (content (body new k) ≡ content (body old k))
+  -- "A kind not in the old image is written empty, biometrics Deactivated"
+  pub none : (k : ℕ) → isBiometrics k ≡ false → has old k ≡ false → recordsOf new k ≡ []
+  pub deactivated : (k : ℕ) → isBiometrics k ≡ true → has old k ≡ false → (state (body new k) ≡ 0) × (written (body new k) ≡ 0) × (content (body new k) ≡ [])
+
+abbrev pub Carries : Type 0
+Carries = (old list t : List ℕ) (n : ℕ) → carry old list (length t) ≡ Image n → Carried old list t n (take n (carryInto old list t))
+
+-- "A move to the same sizes with free bytes already zero copies the image"; and it is not refused but for a short target
+abbrev pub Same-sizes : Type 0
+Same-sizes =
+    (old t : List ℕ)
+    → wellFormed old ≡ true
+    → FreeZero old
+    → length old ≤ length t
+    → (carry old (heads old) (length t) ≡ Image (length old)) × (carryInto old (heads old) t ≡ old ++ drop (length old) t)
+
+-- nothing is left open: two moves that meet the contract of the same call are equal
+abbrev pub One-move : Type 0
+One-move =
+    (old list t : List ℕ) (m p : Moved) (a b : List ℕ)
+    → (m ≡ carry old list (length t)) × (a ≡ carryInto old list t)
+    → (p ≡ carry old list (length t)) × (b ≡ carryInto old list t)
+    → (m ≡ p) × (a ≡ b)
+
+-- the result of `malquindo_move` is "refusal · 2^32 + the new image's length", and that length has room in its 32 bits
+abbrev pub Move-whole : Type 0
+Move-whole = (old list : List ℕ) (n : ℕ) → Numbered (carry old list n)

@@ -13,7 +13,7 @@ use borrow.Author.Tests.{le-leb, lt-leb, leb-true, lt-ltb, le-ltb, ltb-true}
 use Rattle.base.specs.Choice.{every}
 use Rattle.base.specs.Bytes.{part, put}
 use Rattle.base.proofs.Cases.{pick-ind, held, all-held}
-use Rattle.base.proofs.Parts.{Agree, part-agree, drop-part}
+use Rattle.base.proofs.Parts.{Agree, part-within, drop-part}
 use Rattle.base.proofs.Runs.{getD-sets-before, part-sets, sets-append, put-yes, length-put}
 use Rattle.records.specs.Little.{le16, bytes16}
 use Rattle.records.specs.Body.{count, next, place, recordAt, firsts, records, used, fits, okAt, okTo, bodyOk, takes, written, appended, append}
@@ -85,9 +85,9 @@ module _ (xs d : List ℕ) (at n : ℕ) (ea : at ≡ used xs) (en : n ≡ count 
   appended-by l₁ l₂ e₁ e₂ =
       ap₂ (λ (l : List ℕ) (k : ℕ). set (set l 1 ((k + 1) / 256 % 256)) 0 ((k + 1) % 256)) (e₂ ∙ ap (λ (l : List ℕ). put l (at + 2) d) e₁ ∙ two-puts) en
 
--- ---- bodies that agree up to the place n
+-- ---- bodies that both hold the place n and agree up to it
 
-module _ (xs ys : List ℕ) (n : ℕ) (same : length ys ≡ length xs) (agree : Agree xs ys 2 (place xs n)) where
+module _ (xs ys : List ℕ) (n : ℕ) (here : place xs n ≤ length xs) (there : place xs n ≤ length ys) (agree : Agree xs ys 2 (place xs n)) where
   -- the length field of record k lies in that stretch
   len-agree : (k : ℕ) → k < n → le16 ys (place xs k) ≡ le16 xs (place xs k)
   len-agree k h =
@@ -109,7 +109,7 @@ module _ (xs ys : List ℕ) (n : ℕ) (same : length ys ≡ length xs) (agree : 
       let l = place-lt xs k n h in
       let b = place-low xs k in
       ap₂ (λ (p m : ℕ). part ys (p + 2) m) (place-agree k (omega arith)) (le16-at k h)
-      ∙ part-agree xs ys 2 (place xs n) (place xs k + 2) (le16 xs (place xs k)) same agree (omega arith) (omega arith)
+      ∙ part-within xs ys 2 (place xs n) (place xs k + 2) (le16 xs (place xs k)) here there agree (omega arith) (omega arith)
 
   pub firsts-agree : (k : ℕ) → k ≤ n → firsts ys k ≡ firsts xs k
   unfolding firsts
@@ -117,9 +117,12 @@ module _ (xs ys : List ℕ) (n : ℕ) (same : length ys ≡ length xs) (agree : 
   firsts-agree (suc k) h =
       ap₂ (λ (l : List (List ℕ)) (r : List ℕ). l ++ (r ∷ [])) (firsts-agree k (omega arith)) (record-agree k (omega arith))
 
+  -- a record that is whole in one is so in the other
   pub okAt-agree : (L k : ℕ) → k < n → okAt L ys (place ys k) ≡ okAt L xs (place xs k)
   unfolding okAt
-  okAt-agree L k h = rw (le16-at k h, place-agree k (omega arith), same)
+  okAt-agree L k h =
+      let l = place-lt xs k n h in
+      rw (le16-at k h, place-agree k (omega arith), le-leb (next xs (place xs k)) (length ys) (omega arith), le-leb (next xs (place xs k)) (length xs) (omega arith))
 
   pub okTo-agree : (L k : ℕ) → k ≤ n → okTo L ys k ≡ okTo L xs k
   unfolding okTo
@@ -181,10 +184,17 @@ module _ (xs d : List ℕ) (t : takes xs (length d) ≡ true) where
       ∙ sym (drop-part (appended xs d) (used xs) 2 (length d))
       ∙ ap (drop 2) appended-run
 
+  -- both bodies hold all that is used
+  held-before : used xs ≤ length xs
+  held-before = let f = facts in omega (arith, f .room)
+
+  held-after : used xs ≤ length (appended xs d)
+  held-after = let l = appended-length in omega (arith, held-before)
+
   -- places stay
   pub appended-place : (k : ℕ) → k ≤ count xs → place (appended xs d) k ≡ place xs k
   unfolding used
-  appended-place = place-agree xs (appended xs d) (count xs) appended-length appended-agree
+  appended-place = place-agree xs (appended xs d) (count xs) held-before held-after appended-agree
 
   last-place : place (appended xs d) (count xs) ≡ used xs
   unfolding used
@@ -197,7 +207,7 @@ module _ (xs d : List ℕ) (t : takes xs (length d) ≡ true) where
       let ys : List ℕ = appended xs d in
       let n : ℕ = count xs in
       ap (firsts ys) (appended-count ∙ add-one n)
-      ∙ ap₂ (λ (l : List (List ℕ)) (r : List ℕ). l ++ (r ∷ [])) (firsts-agree xs ys n appended-length appended-agree n (omega arith)) (ap (recordAt ys) last-place ∙ appended-record)
+      ∙ ap₂ (λ (l : List (List ℕ)) (r : List ℕ). l ++ (r ∷ [])) (firsts-agree xs ys n held-before held-after appended-agree n (omega arith)) (ap (recordAt ys) last-place ∙ appended-record)
 
   pub appended-used : used (appended xs d) ≡ used xs + 2 + length d
   unfolding used
@@ -217,7 +227,7 @@ module _ (xs d : List ℕ) (t : takes xs (length d) ≡ true) where
       let w : le16 ys (used xs) ≡ length d = appended-le16 in
       let l : length ys ≡ length xs = appended-length in
       let c : count ys ≡ n + 1 = appended-count in
-      let okd : okTo L ys n ≡ true = okTo-agree xs ys n l appended-agree L n (omega arith) ∙ f .all in
+      let okd : okTo L ys n ≡ true = okTo-agree xs ys n held-before held-after appended-agree L n (omega arith) ∙ f .all in
       let last : okAt L ys (place ys n) ≡ true = rw p (okAt-true L ys (used xs) (omega arith) (omega arith) (omega arith)) in
       bodyOk-true L M ys (omega (arith, f .long)) (omega arith) (rw c (okTo-suc L ys n okd last))
 

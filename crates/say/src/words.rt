@@ -40,6 +40,10 @@ pub fn refusal(number: u64)
         2 => word(b"! refused (2): the card image is not well formed"),
         3 => word(b"! refused (3): rights are 60 bytes, three certificates of 20"),
         4 => word(b"! refused (4): the session does not fit the card"),
+        10 => word(b"! refused (10): these rooms make no well-formed card"),
+        11 => word(b"! refused (11): a file of the card has no room"),
+        12 => word(b"! refused (12): a room is too small for its file"),
+        13 => word(b"! refused (13): the target is too short"),
         _ => word(b"! refused"),
     }
 }

@@ -1,4 +1,7 @@
-// Hexadecimal: read from a line, with spaces anywhere between digits.
+// Numbers and bytes in digits, as a line has them. Hexadecimal may have spaces anywhere between its digits.
+
+// No number of 32 bits.
+pub(crate) const NONE: usize = 4294967296;
 
 // How many bytes were read, and the first digit of the next, 16 where there is none; good is false where something is no digit, or there
 // is no room.
@@ -82,4 +85,41 @@ pub(crate) fn decode(text: &[u8], out: &mut [u8]) -> Read {
         i += 1;
     }
     state(n, 16, half == 16)
+}
+
+// One digit more of a number that has 32 bits.
+fn more(value: usize, hexadecimal: bool, d: usize) -> usize {
+    if hexadecimal {
+        return value % 4294967296 * 16 + d % 16;
+    }
+    value % 4294967296 * 10 + d % 16
+}
+
+// Whether d is a digit.
+fn is_digit(hexadecimal: bool, d: usize) -> bool {
+    if hexadecimal {
+        return d < 16;
+    }
+    d < 10
+}
+
+// The number of at most 32 bits that a word is; more than that where it is none.
+pub(crate) fn number(word: &[u8], hexadecimal: bool) -> usize {
+    let mut value = 0;
+    let mut i = 0;
+    while i < word.len() {
+        let d = digit(base::byte(word, i));
+        if !is_digit(hexadecimal, d) {
+            return NONE;
+        }
+        value = more(value, hexadecimal, d);
+        if NONE <= value {
+            return NONE;
+        }
+        i += 1;
+    }
+    if i == 0 {
+        return NONE;
+    }
+    value
 }

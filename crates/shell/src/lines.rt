@@ -1,5 +1,6 @@
 // The lines of the input, each answered as soon as it is whole.
 use crate::hex;
+use crate::moves;
 use say::words;
 ghost use Prim.Native.Nat.{_≤_};
 ghost use lib.ListN.{length};
@@ -120,6 +121,13 @@ fn command(text: &[u8], image: &mut [u8], session: &mut [u8]) {
     send(base::part(&bytes, 0, r.n), image, session);
 }
 
+// Carries the card to a new file.
+fn move_line(text: &[u8], image: &[u8]) {
+    if !moves::line(base::part(text, 4, text.len()), image) {
+        unreadable(text);
+    }
+}
+
 // One line, without its comment.
 fn line(text: &[u8], image: &mut [u8], session: &mut [u8]) {
     let at = first(text);
@@ -133,6 +141,10 @@ fn line(text: &[u8], image: &mut [u8], session: &mut [u8]) {
     }
     if starts(t, b"show") {
         listing::card(image);
+        return;
+    }
+    if starts(t, b"move") {
+        move_line(t, image);
         return;
     }
     command(t, image, session);

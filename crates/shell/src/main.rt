@@ -1,9 +1,10 @@
 // A card at the terminal. Commands in hexadecimal come from standard input, a line each; `open` with the hexadecimal of three certificates
-// opens another session, `show` lists what the card holds. Each is answered on a line. The argument is the file of a card image, which is
+// opens another session, `show` lists what the card holds, `move` carries it to a new file with other rooms. Each is answered on a line. The argument is the file of a card image, which is
 // written back when all input is read; without it the card is document 01's card to try.
 mod card;
 mod hex;
 mod lines;
+mod moves;
 
 ghost use mathlib.Core.Path.{_≡_};
 ghost use lib.ListN.{length};

@@ -6,6 +6,7 @@ use mathlib.Core.List.{List, [], _++_}
 use native.Mathlib.Omega.{arith}
 use lib.ListN.{length, take, drop}
 use Rattle.base.specs.Bytes.{part, splice}
+use Rattle.base.proofs.Cases.{false-true}
 use Rattle.base.proofs.Parts.{part-mid, length-part, put-splice, splice-length, splice-part, splice-same}
 use Rattle.bodies.specs.Rules.{kindOk}
 use Rattle.store.specs.Image.{find, isAt, has, present, applicationOf, wellFormed, bodyBy, body, withBodyBy, withBody}
@@ -65,6 +66,15 @@ has-at img k = go (find img k) refl
     go : (f : Found) → find img k ≡ f → isAt f ≡ true → There img k
     go (At s n) e h = there s n e
     go Missing e h = absurd (let z : _≡_ {A = ℕ} 0 1 = cc in omega arith)
+
+-- one that is not there has no body
+pub lacks-body : (img : List ℕ) (k : ℕ) → has img k ≡ false → body img k ≡ []
+unfolding has
+lacks-body img k = go (find img k) refl
+  where
+    go : (f : Found) → find img k ≡ f → isAt f ≡ false → body img k ≡ []
+    go (At s n) e h = false-true (sym h)
+    go Missing e h = missing-body img k e
 
 -- a file of a well-formed image is right for its kind, and its application is present
 pub body-right : (img : List ℕ) (k : ℕ) → wellFormed img ≡ true → has img k ≡ true → kindOk k (body img k) ≡ true

@@ -57,7 +57,7 @@ biometrics-unruled k b = go (ruleOf (Kind k)) refl
         absurd (omega (arith, g .high, g .last))
 
 -- so a body of such a kind is right when it is one of biometrics
-biometrics-kind : (k : ℕ) (xs : List ℕ) → isBiometrics k ≡ true → kindOk k xs ≡ bioOk xs
+pub biometrics-kind : (k : ℕ) (xs : List ℕ) → isBiometrics k ≡ true → kindOk k xs ≡ bioOk xs
 biometrics-kind k xs b =
     by-kind.kindOk-biometrics k xs (biometrics-unruled k b) (low .0) (low .1)
   where

@@ -2,7 +2,7 @@
 use Prim.Native.Nat.{ℕ, _+_, _≤_, _<_}
 use mathlib.Core.Path.{_≡_, refl, sym, ap, _∙_}
 use mathlib.Core.Bool.{Bool, true, false, _&&_, and-true, and-false}
-use mathlib.Core.List.{List}
+use mathlib.Core.List.{List, [], _∷_}
 use lib.ListN.{drop}
 use borrow.Author.Tests.{lt-leb, le-leb, eq-eqb}
 use Rattle.base.specs.Choice.{every}
@@ -52,3 +52,14 @@ unfolding present ruleOf there
 present-has img key r e p =
     let t : there img (r .application) r ≡ true = passed (there img (r .application)) key rules r (held _ p .1 .1 .0) e .0 in
     simp (eq-eqb (r .application) (r .application) refl) at t
+
+-- images that have the same files have the same applications
+module _ (img new : List ℕ) (same : (k : ℕ) → has new k ≡ has img k) where
+  there-same : (a : ℕ) (rs : List Rule) → allRules (there new a) rs ≡ allRules (there img a) rs
+  unfolding allRules there
+  there-same a [] = refl
+  there-same a (r ∷ rs) = rw (same (r .kind), there-same a rs)
+
+  pub present-same : (a : ℕ) → present new a ≡ present img a
+  unfolding present
+  present-same a = rw (there-same a rules)

@@ -2,7 +2,7 @@
 use Prim.Native.Nat.{ℕ, zero, suc, _+_, _≤_, _<_}
 use mathlib.Core.Path.{_≡_, refl, sym, ap, _∙_}
 use mathlib.Core.Bool.{Bool, true, false, _&&_}
-use mathlib.Core.List.{List, [], _∷_}
+use mathlib.Core.List.{List}
 use mathlib.Core.Logic.{_⊎_, inl, inr, ⊎-elim}
 use native.Mathlib.Omega.{arith}
 use lib.ListN.{length}
@@ -11,16 +11,16 @@ use borrow.Author.Tests.{lt-leb, leb-true, eqb-true, eqb-false}
 use Rattle.base.specs.Bytes.{part, splice}
 use Rattle.base.proofs.Cases.{and-left, and-right, held}
 use Rattle.base.proofs.Parts.{Agree, part-agree, splice-length, splice-before, splice-after, splice-part}
-use Rattle.bodies.specs.Rules.{rules, allRules, kindOk}
-use Rattle.store.specs.Image.{lenAt, kindAt, bodyAt, endAt, choose, findFrom, find, isAt, has, there, present, applicationOf, sectionOk, sectionsOk, wellFormed}
-use Rattle.bodies.specs.declared.rules.Rule.{Rule}
+use Rattle.bodies.specs.Rules.{kindOk}
+use Rattle.store.specs.Image.{lenAt, kindAt, bodyAt, endAt, choose, findFrom, find, isAt, has, present, applicationOf, sectionOk, sectionsOk, wellFormed}
 use Rattle.store.specs.declared.image.Found.the-variants.{At, Missing}
 use Rattle.records.proofs.Numbers.{le16-agree, le32-agree}
 use Rattle.store.proofs.Sections.{section-facts}
+use Rattle.store.proofs.Presence.{present-same}
 
 -- ---- what a find says
 
-no : {A : Type 0} (s n : ℕ) → Missing ≡ At s n → A
+pub no : {A : Type 0} (s n : ℕ) → Missing ≡ At s n → A
 no s n e = absurd (let z : _≡_ {A = ℕ} 0 1 = cc in omega arith)
 
 -- the section at p is the one that is found, or is passed
@@ -28,7 +28,7 @@ pub data Way (img : List ℕ) (p k s n : ℕ) (f : ℕ) : Type 0 where
   here-it-is : endAt img p ≤ length img → kindAt img p ≡ k → p + 6 ≡ s → lenAt img p ≡ n → Way img p k s n f
   further : endAt img p ≤ length img → (kindAt img p ≡ k → ⊥) → findFrom f img (endAt img p) k ≡ At s n → Way img p k s n f
 
-way : (f : ℕ) (img : List ℕ) (p k s n : ℕ) → findFrom (suc f) img p k ≡ At s n → Way img p k s n f
+pub way : (f : ℕ) (img : List ℕ) (p k s n : ℕ) → findFrom (suc f) img p k ≡ At s n → Way img p k s n f
 unfolding findFrom
 way f img p k s n = go (leb (endAt img p) (length img)) (eqb (kindAt img p) k) refl refl
   where
@@ -127,15 +127,6 @@ module _ (img new : List ℕ) (s n : ℕ) (same : length new ≡ length img) (be
     unfolding has
     has-kept j = ap isAt (find-kept j)
 
-    there-kept : (a : ℕ) (rs : List Rule) → allRules (there new a) rs ≡ allRules (there img a) rs
-    unfolding allRules there
-    there-kept a [] = refl
-    there-kept a (r ∷ rs) = rw (has-kept (r .kind), there-kept a rs)
-
-    present-kept : (a : ℕ) → present new a ≡ present img a
-    unfolding present
-    present-kept a = rw (there-kept a rules)
-
     -- the body of every other kind stays
     pub other-kept : (j t m : ℕ) → (j ≡ k → ⊥) → find img j ≡ At t m → part new t m ≡ part img t m
     other-kept j t m ne e =
@@ -150,7 +141,7 @@ module _ (img new : List ℕ) (s n : ℕ) (same : length new ≡ length img) (be
         → sectionsOk f new (endAt img p) (kindAt img p) ≡ sectionsOk f img (endAt img p) (kindAt img p)
         → sectionsOk (suc f) new p last ≡ sectionsOk (suc f) img p last
     unfolding sectionsOk sectionOk
-    sections-step f p last l i b r = rw (i, b, l, same, r, present-kept (applicationOf (kindAt img p)))
+    sections-step f p last l i b r = rw (i, b, l, same, r, present-same img new has-kept (applicationOf (kindAt img p)))
 
     sections-after : (f p last : ℕ) → s + n ≤ p → sectionsOk f new p last ≡ sectionsOk f img p last
     unfolding sectionsOk
@@ -177,7 +168,7 @@ module _ (img new : List ℕ) (s n : ℕ) (same : length new ≡ length img) (be
 
 -- ---- what is found in a well-formed image is right for its kind
 
-open-sections : (f : ℕ) (img : List ℕ) (p last : ℕ) → p < length img → sectionsOk (suc f) img p last ≡ true
+pub open-sections : (f : ℕ) (img : List ℕ) (p last : ℕ) → p < length img → sectionsOk (suc f) img p last ≡ true
     → (sectionOk img p last ≡ true) × (sectionsOk f img (endAt img p) (kindAt img p) ≡ true)
 unfolding sectionsOk
 open-sections f img p last h o =
@@ -201,7 +192,7 @@ found-right-from (suc f) img p last k s n o e = go (found-right-from f img (endA
         (rw (← b, ← c, ← l) (q .right), rw (← b) (q .beside))
     go r (further a b c) = r (open-sections f img p last (omega arith) o .1) c
 
-sections-of : (img : List ℕ) → wellFormed img ≡ true → sectionsOk (length img) img 0 0 ≡ true
+pub sections-of : (img : List ℕ) → wellFormed img ≡ true → sectionsOk (length img) img 0 0 ≡ true
 unfolding wellFormed
 sections-of img o = held _ o .1 .0
 

@@ -95,7 +95,7 @@ pub fn present(image: &[u8], application: usize) -> bool
 }
 
 // The application whose section a kind is.
-fn application_of(kind: usize) -> usize
+pub fn application_of(kind: usize) -> usize
     ensures { λ r. ⌜ r ≡ applicationOf kind ⌝ }
 {
     if kind < 0x0200 {

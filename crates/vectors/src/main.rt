@@ -6,6 +6,9 @@
 // 4, a command: the length of the response buffer (2 bytes, little-endian), that of the command (2 bytes, little-endian), the
 //    command. The response buffer is filled with A5. The line: the result, the answer (`-` where there is none), the session's bytes, a
 //    hash of the image, a hash of the response buffer.
+// 5, a move: the length of the target (4 bytes, little-endian), that of the list (2 bytes, little-endian), the list. The target is filled
+//    with A5. The line: the result, a hash of the target. Without a refusal the card's image is from now on the first bytes of the
+//    target, as many as the result says.
 use records::little::read16;
 use records::little::read32;
 ghost use mathlib.Core.Path.{_≡_};
@@ -153,6 +156,48 @@ fn command(s: &[u8], card: &mut [u8], image: usize, kept: &mut [u8], n: usize) -
     }
 }
 
+// A target for a move.
+fn fresh() -> [u8; 262144]
+    ensures { λ r. ⌜ 262144 ≡ length r ⌝ }
+{
+    [0xA5; 262144]
+}
+
+// The line of a move. Answers how long the card's image is then.
+fn carry(card: &mut [u8], image: usize, list: &[u8], target: &mut [u8]) -> usize {
+    let r = malquindo::malquindo_move(base::part(card, 0, image), list, target);
+    say::number(r);
+    say::word(b" ");
+    say::number(hash(target));
+    say::end();
+    if r / 4294967296 != 0 {
+        return image;
+    }
+    let n = (r % 4294967296) as usize;
+    base::put(card, 0, base::part(target, 0, n));
+    n
+}
+
+// A move.
+fn moved(s: &[u8], card: &mut [u8], image: usize, session: usize) -> Turn {
+    let bytes = base::part(s, 6, s.len());
+    let m = read32(s, 0);
+    let n = read16(s, 4);
+    let mut target = fresh();
+    if bytes.len() < n {
+        return torn(s);
+    }
+    if target.len() < m {
+        return torn(s);
+    }
+    let now = carry(card, image, base::part(bytes, 0, n), &mut target[..m]);
+    Turn {
+        left: bytes.len() - n,
+        image: now,
+        session,
+    }
+}
+
 // Answers the case that s starts with.
 fn case(s: &[u8], card: &mut [u8], i: usize, kept: &mut [u8], n: usize) -> Turn {
     let rest = base::part(s, 1, s.len());
@@ -161,6 +206,7 @@ fn case(s: &[u8], card: &mut [u8], i: usize, kept: &mut [u8], n: usize) -> Turn 
         2 => session(rest, kept, i),
         3 => opening(rest, kept, i, n),
         4 => command(rest, card, i, kept, n),
+        5 => moved(rest, card, i, n),
         _ => torn(s),
     }
 }

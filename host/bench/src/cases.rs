@@ -1,7 +1,8 @@
-//! The calls to time: card, session and command.
+//! The calls to time: card, session and command; card and rooms.
 
 use difference::make::{self, Apdu, LONGEST_IMAGE, RULES};
 use difference::random::Random;
+use difference::view;
 
 pub const LONGEST_RECORD: usize = 391;
 pub const MOST_RECORDS: usize = 254;
@@ -230,11 +231,12 @@ pub fn fmm() -> Case {
 }
 
 /// The longest image there is, with every file, every record and every biometrics file that an
-/// image may have, and a command that ends at step 1.
-pub fn validation() -> Case {
+/// image may have. Each file has so many bytes free, which are zero.
+fn full_card(free: usize) -> Vec<u8> {
     let mut image = Vec::new();
     for rule in &RULES {
-        let body = make::records(&vec![vec![5; 100]; rule.most]);
+        let mut body = make::records(&vec![vec![5; 100]; rule.most]);
+        body.resize(body.len() + free, 0);
         image.extend(make::section(rule.kind, &body));
     }
     let left = LONGEST_IMAGE - image.len();
@@ -245,20 +247,53 @@ pub fn validation() -> Case {
         } else {
             left / 64
         };
-        let room = vec![9; whole - make::SECTION_HEADER - 5];
-        let body = make::biometrics(0, room.len(), &room);
+        let mut room = vec![9; whole - make::SECTION_HEADER - 5];
+        let written = room.len() - free;
+        room[written..].fill(0);
+        let body = make::biometrics(0, written, &room);
         image.extend(make::section(make::BIOMETRICS_KIND + n, &body));
     }
     assert_eq!(image.len(), LONGEST_IMAGE);
+    image
+}
+
+/// The longest image there is, and a command that ends at step 1.
+pub fn validation() -> Case {
     let mut case = Case::new(
         "validation (a command of no bytes)",
         "262,144 bytes: 1,334 records of 100 bytes in six files, 64 biometrics files",
-        &image,
+        &full_card(0),
         0,
         select_travel(),
     );
     case.command.clear();
     case.status(0x6700)
+}
+
+/// A card to carry, and the rooms that it is carried to.
+pub struct Move {
+    pub name: String,
+    pub held: String,
+    pub old: Vec<u8>,
+    pub list: Vec<u8>,
+}
+
+/// The longest image there is, almost full, to the rooms that it has: the move is a copy.
+pub fn move_to_the_same_sizes() -> Move {
+    let old = full_card(16);
+    let rooms = view::sections(&old);
+    let rows: Vec<(u16, usize)> = rooms
+        .into_iter()
+        .map(|(kind, body)| (kind, body.len()))
+        .collect();
+    Move {
+        name: "move to the same sizes".to_string(),
+        held: "262,144 bytes: 1,334 records of 100 bytes in six files, 64 biometrics files, \
+               16 bytes free in each"
+            .to_string(),
+        list: make::list(&rows),
+        old,
+    }
 }
 
 /// A search with a long string, for the stack; one of 980 bytes is about the longest there is.

@@ -16,6 +16,7 @@ fn main() {
     println!("malquindo_command lies at {} modulo 64\n", place_of_code());
     times();
     growth();
+    move_times();
     stack_use();
 }
 
@@ -141,6 +142,24 @@ fn growth() {
     }
 }
 
+/// A move to the same sizes beside the reference, and beside a plain copy of as many bytes.
+fn move_times() {
+    println!("\n| row | what the buffers held | proved (µs) | reference (µs) | ratio | plain copy (µs) | ratio to the copy |");
+    println!("|---|---|---|---|---|---|---|");
+    let case = cases::move_to_the_same_sizes();
+    let times = time::measure_move(&case);
+    println!(
+        "| {} | {} | {:.3} | {:.3} | {:.2} | {:.3} | {:.2} |",
+        case.name,
+        case.held,
+        times.proved / 1_000.0,
+        times.reference / 1_000.0,
+        times.proved / times.reference,
+        times.copy / 1_000.0,
+        times.proved / times.copy
+    );
+}
+
 fn stack_use() {
     println!("\n| call of malquindo_command | stack (bytes, without the caller's arguments and return address) |");
     println!("|---|---|");
@@ -163,4 +182,13 @@ fn stack_use() {
             stack::of_case(&case)
         );
     }
+    let case = cases::move_to_the_same_sizes();
+    println!("\n| call of malquindo_move | stack (bytes, without the caller's arguments and return address) |");
+    println!("|---|---|");
+    println!(
+        "| {}; {} | {} |",
+        case.name,
+        case.held,
+        stack::of_move(&case)
+    );
 }

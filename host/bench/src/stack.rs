@@ -1,7 +1,7 @@
 //! The stack one call uses, measured: the call runs on a painted stack of its own, and the lowest
 //! byte that lost its paint tells how deep it went.
 
-use crate::cases::Case;
+use crate::cases::{Case, Move};
 use std::arch::asm;
 
 const STACK_LEN: usize = 1 << 20;
@@ -10,14 +10,25 @@ const PAINTS: [u8; 2] = [0xA5, 0x3C];
 
 type Command =
     unsafe extern "C" fn(*mut u8, usize, *mut u8, usize, *const u8, usize, *mut u8, usize) -> u64;
+type Carry = unsafe extern "C" fn(*const u8, usize, *const u8, usize, *mut u8, usize) -> u64;
+/// Makes the call that it is given.
+type Trampoline<C> = unsafe extern "C" fn(*mut C);
 
-/// What the trampoline hands on.
+/// What the trampoline of a command hands on.
 struct Call {
     function: Command,
     image: Vec<u8>,
     session: Vec<u8>,
     command: Vec<u8>,
     response: Vec<u8>,
+    result: u64,
+}
+
+/// What the trampoline of a move hands on.
+struct MoveCall<'a> {
+    function: Carry,
+    case: &'a Move,
+    target: Vec<u8>,
     result: u64,
 }
 
@@ -39,8 +50,29 @@ fn depth(case: &Case, function: Command, status: u16) -> usize {
             response: vec![0; 2_050],
             result: 0,
         };
-        let depth = painted_depth(*paint, &mut call);
+        let depth = painted_depth(*paint, trampoline, &mut call);
         assert_eq!(call.result as u16, status, "{}", case.name);
+        depth
+    });
+    deepest.max().unwrap_or(0)
+}
+
+/// The same of a move to the sizes that the card has.
+pub fn of_move(case: &Move) -> usize {
+    let used = move_depth(case, malquindo_sys::malquindo_move, case.old.len());
+    used - move_depth(case, no_move, 0)
+}
+
+fn move_depth(case: &Move, function: Carry, length: usize) -> usize {
+    let deepest = PAINTS.iter().map(|paint| {
+        let mut call = MoveCall {
+            function,
+            case,
+            target: vec![0; case.old.len()],
+            result: 0,
+        };
+        let depth = painted_depth(*paint, move_trampoline, &mut call);
+        assert_eq!(call.result, length as u64, "{}", case.name);
         depth
     });
     deepest.max().unwrap_or(0)
@@ -51,6 +83,18 @@ unsafe extern "C" fn nothing(
     _: *mut u8,
     _: usize,
     _: *mut u8,
+    _: usize,
+    _: *const u8,
+    _: usize,
+    _: *mut u8,
+    _: usize,
+) -> u64 {
+    0
+}
+
+/// Takes what `malquindo_move` takes and does nothing.
+unsafe extern "C" fn no_move(
+    _: *const u8,
     _: usize,
     _: *const u8,
     _: usize,
@@ -78,8 +122,24 @@ unsafe extern "C" fn trampoline(call: *mut Call) {
     );
 }
 
+/// Calls the function with the move's buffers.
+///
+/// # Safety
+/// `call` points to a call that nothing else uses meanwhile.
+unsafe extern "C" fn move_trampoline(call: *mut MoveCall) {
+    let call = &mut *call;
+    call.result = (call.function)(
+        call.case.old.as_ptr(),
+        call.case.old.len(),
+        call.case.list.as_ptr(),
+        call.case.list.len(),
+        call.target.as_mut_ptr(),
+        call.target.len(),
+    );
+}
+
 /// How many bytes from the top down to the lowest one that lost its paint.
-fn painted_depth(paint: u8, call: &mut Call) -> usize {
+fn painted_depth<C>(paint: u8, trampoline: Trampoline<C>, call: &mut C) -> usize {
     let mut stack = vec![paint; STACK_LEN + 16];
     let start = stack.as_mut_ptr();
     // A stack pointer is a multiple of 16 before a call.
@@ -94,8 +154,8 @@ fn painted_depth(paint: u8, call: &mut Call) -> usize {
             "call {trampoline}",
             "mov rsp, r12",
             top = in(reg) top,
-            trampoline = in(reg) trampoline as unsafe extern "C" fn(*mut Call),
-            inout("rdi") call as *mut Call => _,
+            trampoline = in(reg) trampoline,
+            inout("rdi") call as *mut C => _,
             out("r12") _,
             clobber_abi("C"),
         );

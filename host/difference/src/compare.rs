@@ -12,20 +12,26 @@ pub type Open = fn(&[u8], &mut [u8]) -> u64;
 /// A command: image, session, command, response.
 pub type Command = fn(&mut [u8], &mut [u8], &[u8], &mut [u8]) -> u64;
 
+/// A move: old image, list, target.
+pub type Carry = fn(&[u8], &[u8], &mut [u8]) -> u64;
+
 /// One implementation.
 pub struct Machine {
     pub open: Open,
     pub command: Command,
+    pub carry: Carry,
 }
 
 pub const PROVED: Machine = Machine {
     open: malquindo::open_raw,
     command: malquindo::command_raw,
+    carry: malquindo::carry_raw,
 };
 
 pub const REFERENCE: Machine = Machine {
     open: reference::open,
     command: reference::command,
+    carry: reference::carry,
 };
 
 /// All that a call may change.
@@ -33,6 +39,7 @@ pub const REFERENCE: Machine = Machine {
 pub struct Outcome {
     pub state: State,
     pub response: Vec<u8>,
+    pub target: Vec<u8>,
 }
 
 /// A call after which the two sides are not the same.
@@ -84,19 +91,12 @@ pub fn compare_machines(
                     reference: sides.reference,
                 }));
             }
-            count(&mut tally, &step, sides.reference.state.result);
+            tally.step(&step, sides.reference.state.result);
+            sides.go_on(&step);
             step_number += 1;
         }
     }
     Ok(tally)
-}
-
-fn count(tally: &mut Tally, step: &Step, result: u64) {
-    match step {
-        Step::Open(_) => tally.open(result),
-        Step::Command { command, .. } => tally.command(command, result),
-        Step::Image(_) | Step::Session(_) => {}
-    }
 }
 
 /// The two sides, and what both held before the call at hand.
@@ -113,18 +113,42 @@ impl Sides {
         self.reference = Outcome::default();
     }
 
-    /// Gives both sides the same response buffer, of random bytes, and keeps what they hold.
+    /// Gives both sides the same response buffer or target, of random bytes, and keeps what they
+    /// hold.
     fn prepare(&mut self, step: &Step, fill: &mut Random) {
-        if let Step::Command { response_len, .. } = step {
-            let response = &mut self.before.response;
-            response.resize(*response_len, 0);
-            fill.fill(response);
-            self.proved.response.clone_from(response);
-            self.reference.response.clone_from(response);
+        let Self {
+            before,
+            proved,
+            reference,
+        } = self;
+        match step {
+            Step::Command { response_len, .. } => {
+                before.response.resize(*response_len, 0);
+                fill.fill(&mut before.response);
+                proved.response.clone_from(&before.response);
+                reference.response.clone_from(&before.response);
+            }
+            Step::Move { target_len, .. } => {
+                before.target.resize(*target_len, 0);
+                fill.fill(&mut before.target);
+                proved.target.clone_from(&before.target);
+                reference.target.clone_from(&before.target);
+            }
+            Step::Image(_) | Step::Session(_) | Step::Open(_) => {}
         }
-        let held = &self.reference.state;
-        self.before.state.image.clone_from(&held.image);
-        self.before.state.session.clone_from(&held.session);
+        let held = &reference.state;
+        before.state.image.clone_from(&held.image);
+        before.state.session.clone_from(&held.session);
+    }
+
+    /// After a move that is done the card is the one that it wrote. The old one was compared
+    /// before.
+    fn go_on(&mut self, step: &Step) {
+        if let Step::Move { .. } = step {
+            for side in [&mut self.proved, &mut self.reference] {
+                side.state.take_moved(&side.target);
+            }
+        }
     }
 }
 
@@ -142,6 +166,7 @@ impl Outcome {
             Step::Command { command, .. } => {
                 *result = (machine.command)(image, session, command, &mut self.response);
             }
+            Step::Move { list, .. } => *result = (machine.carry)(image, list, &mut self.target),
         }
     }
 }
@@ -156,30 +181,39 @@ impl fmt::Display for Difference {
         match &self.step {
             Step::Open(rights) => writeln!(f, "open     {}", hex(rights))?,
             Step::Command { command, .. } => writeln!(f, "command  {}", hex(command))?,
+            Step::Move { list, .. } => writeln!(f, "move     {}", hex(list))?,
             Step::Image(_) | Step::Session(_) => writeln!(f, "no call")?,
         }
-        for (name, outcome) in [
-            ("BEFORE", &self.before),
-            ("PROVED", &self.proved),
-            ("REFERENCE", &self.reference),
-        ] {
-            let State {
-                image,
-                session,
-                result,
-            } = &outcome.state;
-            if name != "BEFORE" {
-                let (refusal, length, status) =
-                    (result >> 32, (result >> 16) & 0xFFFF, result & 0xFFFF);
-                writeln!(
-                    f,
-                    "{name} result {result}: refusal {refusal}, length {length}, status {status:04X}"
-                )?;
+        self.side(f, "BEFORE", &self.before)?;
+        self.side(f, "PROVED", &self.proved)?;
+        self.side(f, "REFERENCE", &self.reference)
+    }
+}
+
+impl Difference {
+    fn side(&self, f: &mut fmt::Formatter<'_>, name: &str, outcome: &Outcome) -> fmt::Result {
+        let State {
+            image,
+            session,
+            result,
+        } = &outcome.state;
+        let (refusal, low) = (result >> 32, *result as u32);
+        let (length, status) = (low >> 16, low & 0xFFFF);
+        match &self.step {
+            _ if name == "BEFORE" => {}
+            Step::Move { .. } => {
+                writeln!(f, "{name} result {result}: refusal {refusal}, length {low}")?;
             }
-            writeln!(f, "{name} session  {}", hex(session))?;
-            writeln!(f, "{name} response {}", hex(&outcome.response))?;
-            writeln!(f, "{name} image    {}", hex(image))?;
+            _ => writeln!(
+                f,
+                "{name} result {result}: refusal {refusal}, length {length}, status {status:04X}"
+            )?,
         }
-        Ok(())
+        writeln!(f, "{name} session  {}", hex(session))?;
+        match &self.step {
+            Step::Move { .. } => writeln!(f, "{name} target   {}", hex(&outcome.target))?,
+            _ => writeln!(f, "{name} response {}", hex(&outcome.response))?,
+        }
+        writeln!(f, "{name} image    {}", hex(image))
     }
 }

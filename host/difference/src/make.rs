@@ -57,6 +57,17 @@ pub fn section(kind: u16, body: &[u8]) -> Vec<u8> {
     bytes
 }
 
+/// The list of a move: for each section its kind and the length of its body.
+pub fn list(rows: &[(u16, usize)]) -> Vec<u8> {
+    rows.iter()
+        .flat_map(|(kind, length)| {
+            let mut row = (*length as u32).to_le_bytes().to_vec();
+            row.extend(kind.to_le_bytes());
+            row
+        })
+        .collect()
+}
+
 /// A record body without free room.
 pub fn records<R: AsRef<[u8]>>(records: &[R]) -> Vec<u8> {
     let mut body = (records.len() as u16).to_le_bytes().to_vec();

@@ -4,12 +4,15 @@
 use crate::card::{self, Size};
 use crate::command;
 use crate::make::{SESSION_LEN, SHORTEST_RESPONSE};
+use crate::moving;
 use crate::random::Random;
 use crate::rights;
+use crate::scene;
 use crate::view::View;
 use std::collections::VecDeque;
 
-/// One thing to do. An image or a session stays until another comes.
+/// One thing to do. An image or a session stays until another comes; a move that is done brings
+/// the image that it wrote.
 #[derive(Clone)]
 pub enum Step {
     Image(Vec<u8>),
@@ -18,6 +21,10 @@ pub enum Step {
     Command {
         response_len: usize,
         command: Vec<u8>,
+    },
+    Move {
+        target_len: usize,
+        list: Vec<u8>,
     },
 }
 
@@ -34,6 +41,13 @@ impl State {
     pub fn refusal(&self) -> u64 {
         self.result >> 32
     }
+
+    /// Goes on with the card that a move wrote into the target, if it was done.
+    pub fn take_moved(&mut self, target: &[u8]) {
+        if self.refusal() == 0 {
+            self.image = target[..self.result as usize].to_vec();
+        }
+    }
 }
 
 pub struct Sequence {
@@ -46,12 +60,35 @@ pub struct Sequence {
     session: Option<Vec<u8>>,
     /// The image as the commands left it, once damage begins.
     image: Option<Vec<u8>>,
+    /// Whether the last call was a move, which says nothing about the session.
+    moved: bool,
 }
 
 impl Sequence {
-    /// The sequence of this number in the run of this seed.
+    /// The sequence of this number in the run of this seed; each seed's first is the scene.
     pub fn new(seed: u64, number: u64, size: Size) -> Self {
-        let mut random = Random::part(seed, number);
+        let random = Random::part(seed, number);
+        match number {
+            0 => Self::scene(random, size),
+            _ => Self::on_a_card(random, size),
+        }
+    }
+
+    fn scene(random: Random, size: Size) -> Self {
+        Self {
+            pending: scene::lines().into_iter().map(|(step, _)| step).collect(),
+            commands_left: 0,
+            damages_left: 0,
+            random,
+            size,
+            session: None,
+            image: None,
+            moved: false,
+        }
+    }
+
+    /// A made-up card, on which the calls are then planned one by one.
+    fn on_a_card(mut random: Random, size: Size) -> Self {
         let image = card::image(&mut random, size);
         let session_len = match random.below(8) {
             0 => random.between(SESSION_LEN, 40),
@@ -76,6 +113,7 @@ impl Sequence {
             size,
             session: None,
             image: None,
+            moved: false,
         }
     }
 
@@ -108,13 +146,18 @@ impl Sequence {
                 }
             }
             3..=4 => self.plan_open(),
+            5..=9 if self.size == Size::Any || self.random.one_in(4) => {
+                self.plan_move(&state.image);
+            }
             _ => self.plan_command(&view, &state.image),
         }
     }
 
     /// The session to go on with. One that was refused gives way to the last that was not.
     fn good_session(&mut self, state: &State) -> Vec<u8> {
+        let moved = std::mem::take(&mut self.moved);
         match (&self.session, state.refusal()) {
+            (Some(_), _) if moved => state.session.clone(),
             (Some(session), 3 | 4) => {
                 self.pending.push_back(Step::Session(session.clone()));
                 session.clone()
@@ -150,13 +193,25 @@ impl Sequence {
         });
     }
 
-    /// A damaged image in place of the card's, and one command on it.
+    /// A move to rooms for what the given image holds.
+    fn plan_move(&mut self, image: &[u8]) {
+        self.moved = true;
+        let step = moving::step(&mut self.random, image, self.size);
+        self.pending.push_back(step);
+    }
+
+    /// A damaged image in place of the card's, and one call on it: a command, or a move to rooms
+    /// for what can still be seen of it or for what it was.
     fn plan_damage(&mut self, state: &State) {
         let session = self.good_session(state);
         let image = self.image.get_or_insert_with(|| state.image.clone());
         let damaged = card::damaged(&mut self.random, image, self.size);
-        let view = View::new(&damaged, &session);
+        let image = image.clone();
         self.pending.push_back(Step::Image(damaged.clone()));
-        self.plan_command(&view, &damaged);
+        match self.random.below(8) {
+            0 => self.plan_move(&damaged),
+            1 => self.plan_move(&image),
+            _ => self.plan_command(&View::new(&damaged, &session), &damaged),
+        }
     }
 }

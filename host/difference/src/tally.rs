@@ -1,6 +1,7 @@
 //! How often each outcome occurred.
 
 use crate::command::NAMES;
+use crate::sequence::Step;
 use std::collections::BTreeMap;
 use std::fmt;
 
@@ -10,6 +11,9 @@ pub const STATUSES: [u16; 14] = [
     0x6E00, 0x9000,
 ];
 
+/// What a move may be refused with.
+pub const MOVE_REFUSALS: [u64; 5] = [2, 10, 11, 12, 13];
+
 /// Where a command belongs that is none of the eight by its first two bytes.
 const OTHER: usize = NAMES.len();
 
@@ -17,22 +21,37 @@ const OTHER: usize = NAMES.len();
 pub struct Tally {
     pub commands: u64,
     pub opens: u64,
+    pub moves: u64,
     /// By command (its place in [`NAMES`]) and status.
     statuses: BTreeMap<(usize, u16), u64>,
+    /// Of commands and openings.
     refusals: [u64; 5],
+    /// Moves by refusal, 0 for those that were done.
+    moved: BTreeMap<u64, u64>,
 }
 
 impl Tally {
     pub fn calls(&self) -> u64 {
-        self.commands + self.opens
+        self.commands + self.opens + self.moves
     }
 
-    pub fn open(&mut self, result: u64) {
-        self.opens += 1;
-        self.refusal(result);
+    /// Counts a step by its result; an image or a session is no call.
+    pub fn step(&mut self, step: &Step, result: u64) {
+        match step {
+            Step::Open(_) => {
+                self.opens += 1;
+                self.refusal(result);
+            }
+            Step::Command { command, .. } => self.command(command, result),
+            Step::Move { .. } => {
+                self.moves += 1;
+                *self.moved.entry(result >> 32).or_default() += 1;
+            }
+            Step::Image(_) | Step::Session(_) => {}
+        }
     }
 
-    pub fn command(&mut self, command: &[u8], result: u64) {
+    fn command(&mut self, command: &[u8], result: u64) {
         self.commands += 1;
         self.refusal(result);
         if result >> 32 == 0 {
@@ -56,7 +75,12 @@ impl Tally {
         (0..=OTHER).map(|place| self.count(place, status)).sum()
     }
 
-    /// What occurred too seldom: each status, each refusal, 9000 of each command.
+    /// How many moves ended with this refusal, or were done (0).
+    pub fn moved(&self, refusal: u64) -> u64 {
+        self.moved.get(&refusal).copied().unwrap_or(0)
+    }
+
+    /// What occurred too seldom: each status, each refusal, 9000 of each command, moves done.
     pub fn missing(&self, each: u64, done: u64) -> Vec<String> {
         let statuses = STATUSES
             .iter()
@@ -66,9 +90,16 @@ impl Tally {
         let commands = NAMES.iter().enumerate().map(|(place, (_, name, ..))| {
             (format!("{name} 9000"), self.count(place, 0x9000), done)
         });
+        let moves = MOVE_REFUSALS.iter().map(|number| {
+            let what = format!("refusal {number} of a move");
+            (what, self.moved(*number), each)
+        });
+        let moved = [("moves done".to_string(), self.moved(0), done)];
         statuses
             .chain(refusals)
             .chain(commands)
+            .chain(moves)
+            .chain(moved)
             .filter(|(_, count, wanted)| count < wanted)
             .map(|(what, count, wanted)| format!("{what}: {count} times, {wanted} wanted"))
             .collect()
@@ -89,9 +120,12 @@ fn place(command: &[u8]) -> usize {
 impl fmt::Display for Tally {
     fn fmt(&self, f: &mut fmt::Formatter<'_>) -> fmt::Result {
         let Self {
-            commands, opens, ..
+            commands,
+            opens,
+            moves,
+            ..
         } = self;
-        writeln!(f, "{commands} commands, {opens} openings\n")?;
+        writeln!(f, "{commands} commands, {opens} openings, {moves} moves\n")?;
         write!(f, "| status |")?;
         let names = NAMES.iter().map(|(_, name, ..)| *name);
         for name in names.chain(["other", "all"]) {
@@ -112,6 +146,11 @@ impl fmt::Display for Tally {
         writeln!(f, "| refusal | times |\n|---|---|")?;
         for (number, count) in self.refusals.iter().enumerate() {
             writeln!(f, "| {number} | {count} |")?;
+        }
+        writeln!(f, "\n| move | times |\n|---|---|")?;
+        writeln!(f, "| done | {} |", self.moved(0))?;
+        for number in MOVE_REFUSALS {
+            writeln!(f, "| refusal {number} | {} |", self.moved(number))?;
         }
         Ok(())
     }

@@ -10,7 +10,7 @@ use std::fmt::Write;
 pub const SEED: u64 = 93_034;
 /// The most bytes the sample may have.
 pub const LONGEST: usize = 262_144;
-/// What the response buffer holds before each command.
+/// What the response buffer holds before each command, and the target before each move.
 const FILL: u8 = 0xA5;
 
 #[derive(Default)]
@@ -30,20 +30,17 @@ impl Vectors {
                 break;
             }
             vectors.stdin.extend(stdin);
-            for (line, command, result) in lines {
+            for (line, step, result) in lines {
                 vectors.stdout.push_str(&line);
-                match command {
-                    Some(command) => vectors.tally.command(&command, result),
-                    None => vectors.tally.open(result),
-                }
+                vectors.tally.step(&step, result);
             }
         }
         vectors
     }
 }
 
-/// A line of output, the command (none for an opening) and the result.
-type Line = (String, Option<Vec<u8>>, u64);
+/// A line of output, the call and its result.
+type Line = (String, Step, u64);
 
 fn one_sequence(seed: u64, number: u64) -> (Vec<u8>, Vec<Line>) {
     let mut sequence = Sequence::new(seed, number, Size::Small);
@@ -52,22 +49,26 @@ fn one_sequence(seed: u64, number: u64) -> (Vec<u8>, Vec<Line>) {
     let mut lines = Vec::new();
     while let Some(step) = sequence.next(&state) {
         encode(&step, &mut stdin);
-        match step {
-            Step::Image(image) => state.image = image,
-            Step::Session(session) => state.session = session,
+        let line = match &step {
+            Step::Image(image) => {
+                state.image.clone_from(image);
+                continue;
+            }
+            Step::Session(session) => {
+                state.session.clone_from(session);
+                continue;
+            }
             Step::Open(rights) => {
-                state.result = reference::open(&rights, &mut state.session);
-                let line = format!("{} {}\n", state.result, hex(&state.session));
-                lines.push((line, None, state.result));
+                state.result = reference::open(rights, &mut state.session);
+                format!("{} {}\n", state.result, hex(&state.session))
             }
             Step::Command {
                 response_len,
                 command,
-            } => {
-                let line = run(&mut state, response_len, &command);
-                lines.push((line, Some(command), state.result));
-            }
-        }
+            } => run(&mut state, *response_len, command),
+            Step::Move { target_len, list } => carry(&mut state, *target_len, list),
+        };
+        lines.push((line, step, state.result));
     }
     (stdin, lines)
 }
@@ -87,7 +88,15 @@ fn run(state: &mut State, response_len: usize, command: &[u8]) -> String {
     )
 }
 
-/// A case: 1 image, 2 session, 3 open, 4 command; lengths are little-endian.
+/// Moves the card and says what that did. The card that a move wrote is the card from then on.
+fn carry(state: &mut State, target_len: usize, list: &[u8]) -> String {
+    let mut target = vec![FILL; target_len];
+    state.result = reference::carry(&state.image, list, &mut target);
+    state.take_moved(&target);
+    format!("{} {}\n", state.result, fnv(&target))
+}
+
+/// A case: 1 image, 2 session, 3 open, 4 command, 5 move; lengths are little-endian.
 fn encode(step: &Step, bytes: &mut Vec<u8>) {
     match step {
         Step::Image(image) => {
@@ -113,6 +122,12 @@ fn encode(step: &Step, bytes: &mut Vec<u8>) {
             bytes.extend((*response_len as u16).to_le_bytes());
             bytes.extend((command.len() as u16).to_le_bytes());
             bytes.extend(command);
+        }
+        Step::Move { target_len, list } => {
+            bytes.push(5);
+            bytes.extend((*target_len as u32).to_le_bytes());
+            bytes.extend((list.len() as u16).to_le_bytes());
+            bytes.extend(list);
         }
     }
 }

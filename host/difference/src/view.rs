@@ -128,6 +128,30 @@ pub fn sections(image: &[u8]) -> Vec<(u16, Range<usize>)> {
     found
 }
 
+/// A section as a move sees it.
+#[derive(Clone, Copy)]
+pub struct Room {
+    pub kind: u16,
+    /// The length of the body.
+    pub length: usize,
+    /// How many bytes of it a move has to keep.
+    pub held: usize,
+}
+
+/// The sections of an image, as far as [`sections`] sees them.
+pub fn rooms(image: &[u8]) -> Vec<Room> {
+    let room = |(kind, body): (u16, Range<usize>)| {
+        let length = body.len();
+        let held = match file(image, kind, body).map(|file| file.content) {
+            Some(Content::Records { free, .. }) => length - free,
+            Some(Content::Biometrics { written, .. }) => length.min(5 + written),
+            _ => 0,
+        };
+        Room { kind, length, held }
+    };
+    sections(image).into_iter().map(room).collect()
+}
+
 fn constant(id: u16, short_id: u8, size: usize) -> File {
     File {
         application: 0,

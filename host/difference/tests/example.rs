@@ -21,6 +21,6 @@ fn the_c_example_prints_what_document_01_says() {
     assert!(run.status.success());
     assert_eq!(
         String::from_utf8_lossy(&run.stdout),
-        "9000\n9000\n5F44035553419000\n"
+        "9000\n9000\n5F44035553419000\n5F44035553419000\n"
     );
 }

@@ -1,4 +1,4 @@
-//! The three functions of `include/malquindo.h`, declared as they stand there.
+//! The four functions of `include/malquindo.h`, declared as they stand there.
 //!
 //! What the caller owes, and nothing checks: each pointer is to as many bytes as its length says,
 //! valid for reading and, where it is `*mut`, for writing; no two of the arguments of one call
@@ -28,5 +28,16 @@ extern "C" {
         command_len: usize,
         response: *mut u8,
         response_len: usize,
+    ) -> u64;
+
+    /// Carries a card to rooms of other sizes. The result is refusal * 2^32 + length of the new
+    /// image.
+    pub fn malquindo_move(
+        old: *const u8,
+        old_len: usize,
+        list: *const u8,
+        list_len: usize,
+        target: *mut u8,
+        target_len: usize,
     ) -> u64;
 }

@@ -30,6 +30,8 @@
 //! assert_eq!(run(&m4)?, ([usa, fra].concat(), 0x9000));
 //! # Ok::<(), malquindo::Refusal>(())
 //! ```
+//!
+//! A card carried to larger rooms is in [`carry`].
 
 use std::fmt;
 
@@ -53,7 +55,7 @@ impl Session {
     }
 }
 
-/// Why a call got no status word; the numbers are document 01's.
+/// Why a call was refused; the numbers are document 01's, and document 02's for a move.
 #[derive(Clone, Copy, Debug, PartialEq, Eq)]
 pub enum Refusal {
     /// The response buffer is shorter than [`RESPONSE_LEN`] bytes.
@@ -64,10 +66,18 @@ pub enum Refusal {
     BadRights = 3,
     /// The session does not fit the image, or is none.
     BadSession = 4,
+    /// The list lays out no valid image.
+    BadList = 10,
+    /// The list has no room for a file of the old card.
+    MissingFile = 11,
+    /// A room is too small for what the file holds.
+    SmallRoom = 12,
+    /// The target is shorter than the new image.
+    ShortTarget = 13,
 }
 
 impl Refusal {
-    /// Document 01's number, 1 to 4.
+    /// Document 01's number, 1 to 4, or document 02's, 10 to 13.
     pub fn number(self) -> u32 {
         self as u32
     }
@@ -79,7 +89,11 @@ impl Refusal {
             1 => Some(Self::ShortBuffer),
             2 => Some(Self::BadImage),
             3 => Some(Self::BadRights),
-            // The library gives 0 to 4 and nothing else.
+            10 => Some(Self::BadList),
+            11 => Some(Self::MissingFile),
+            12 => Some(Self::SmallRoom),
+            13 => Some(Self::ShortTarget),
+            // The library gives these, 0 and 4, and nothing else.
             _ => Some(Self::BadSession),
         }
     }
@@ -92,6 +106,10 @@ impl fmt::Display for Refusal {
             Self::BadImage => "image not well formed",
             Self::BadRights => "rights not 60 bytes",
             Self::BadSession => "session does not fit the image, or is none",
+            Self::BadList => "list that lays out no valid image",
+            Self::MissingFile => "file of the old card not in the list",
+            Self::SmallRoom => "room too small for its content",
+            Self::ShortTarget => "target shorter than the new image",
         })
     }
 }
@@ -135,6 +153,48 @@ pub fn command<'r>(
     })
 }
 
+/// Carries a card to rooms of other sizes: every file of the old image, with its records under
+/// their numbers or its state and bytes; free bytes are zero, and a file that the old image does
+/// not have is empty. The new image is the start of the target, and is answered; the rest of the
+/// target stays. On a refusal all of it does.
+///
+/// Document 01's card, made and then carried to rooms of 100 bytes:
+///
+/// ```
+/// let rooms = |length| malquindo::list(&[0x0101, 0x0102, 0x011A].map(|kind| (kind, length)));
+/// // A chip with nothing on it, carried to three rooms, has three empty files.
+/// let mut old = [0xFF; 138];
+/// malquindo::carry(&[], &rooms(40), &mut old)?;
+/// // A record of one byte in EntryRecords: the count, the record's length, its byte.
+/// old[6..11].copy_from_slice(&[1, 0, 1, 0, 0x55]);
+///
+/// let mut target = [0xFF; 400];
+/// let new = malquindo::carry(&old, &rooms(100), &mut target)?;
+/// assert_eq!(new.len(), 318);
+/// assert_eq!(new[6..11], old[6..11]);
+/// assert!(new[11..106].iter().all(|byte| *byte == 0));
+/// assert!(target[318..].iter().all(|byte| *byte == 0xFF));
+/// # Ok::<(), malquindo::Refusal>(())
+/// ```
+pub fn carry<'t>(old: &[u8], list: &[u8], target: &'t mut [u8]) -> Result<&'t mut [u8], Refusal> {
+    let result = carry_raw(old, list, target);
+    match Refusal::of_result(result) {
+        // The new image's length is at most the target's.
+        None => Ok(&mut target[..result as u32 as usize]),
+        Some(refusal) => Err(refusal),
+    }
+}
+
+/// The list that [`carry`] takes, of kinds and the lengths of their bodies.
+pub fn list(rooms: &[(u16, u32)]) -> Vec<u8> {
+    let row = |(kind, length): &(u16, u32)| {
+        let mut row = length.to_le_bytes().to_vec();
+        row.extend(kind.to_le_bytes());
+        row
+    };
+    rooms.iter().flat_map(row).collect()
+}
+
 /// Opens a session in a buffer of any length; the result is refusal * 2^32.
 pub fn open_raw(rights: &[u8], session: &mut [u8]) -> u64 {
     // SAFETY: the pointers are of slices with these lengths, the one written is borrowed alone,
@@ -168,6 +228,22 @@ pub fn command_raw(
             command.len(),
             response.as_mut_ptr(),
             response.len(),
+        )
+    }
+}
+
+/// A move of buffers of any length; the result is refusal * 2^32 + length of the new image.
+pub fn carry_raw(old: &[u8], list: &[u8], target: &mut [u8]) -> u64 {
+    // SAFETY: the pointers are of slices with these lengths, the one written is borrowed alone,
+    // and a slice's pointer is never null.
+    unsafe {
+        malquindo_sys::malquindo_move(
+            old.as_ptr(),
+            old.len(),
+            list.as_ptr(),
+            list.len(),
+            target.as_mut_ptr(),
+            target.len(),
         )
     }
 }
@@ -214,5 +290,27 @@ mod tests {
         let m1 = [0x00, 0xA4, 0x04, 0x0C, 7, 0xA0, 0, 0, 2, 0x47, 0x20, 1];
         let answer = command(&mut image, &mut session, &m1, &mut response).unwrap();
         assert_eq!((answer.status, answer.data), (0x6982, &[][..]));
+    }
+
+    #[test]
+    fn refusals_of_a_move() {
+        let old = [2, 0, 0, 0, 0x1A, 0x03, 0, 0];
+        let list = list(&[(0x031A, 7)]);
+        let mut target = [0xA5; 13];
+        let bad = carry(&old[1..], &list, &mut target);
+        assert_eq!(bad, Err(Refusal::BadImage));
+        let torn = carry(&old, &list[1..], &mut target);
+        assert_eq!(torn, Err(Refusal::BadList));
+        let missing = carry(&old, &[], &mut target);
+        assert_eq!(missing, Err(Refusal::MissingFile));
+        let held = [5, 0, 0, 0, 0x1A, 0x03, 1, 0, 1, 0, 7];
+        let small = carry(&held, &super::list(&[(0x031A, 4)]), &mut target);
+        assert_eq!(small, Err(Refusal::SmallRoom));
+        let short = carry(&old, &list, &mut target[1..]);
+        assert_eq!(short, Err(Refusal::ShortTarget));
+        assert_eq!(Refusal::ShortTarget.number(), 13);
+        assert_eq!(target, [0xA5; 13]);
+        let new = carry(&held, &list, &mut target).unwrap();
+        assert_eq!(new, [7, 0, 0, 0, 0x1A, 0x03, 1, 0, 1, 0, 7, 0, 0]);
     }
 }

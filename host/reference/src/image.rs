@@ -7,7 +7,7 @@
 /// "At most 262,144 bytes"
 const LONGEST_IMAGE: usize = 262_144;
 /// "A section is a 4-byte little-endian body length L, a 2-byte little-endian kind"
-const SECTION_HEADER: usize = 6;
+pub const SECTION_HEADER: usize = 6;
 /// "0401 to 0440 | Biometrics 1 to 64"
 const BIOMETRICS_FILES: usize = 64;
 const FIRST_BIOMETRICS_KIND: u16 = 0x0401;
@@ -16,6 +16,8 @@ const FIRST_BIOMETRICS_ID: u16 = 0x0201;
 const BIOMETRICS_HEADER: usize = 5;
 /// "room of L − 5 bytes, at most 32,768"
 const LARGEST_ROOM: usize = 32_768;
+/// A body of no content, of each length that an image has room for.
+static EMPTY_BODY: [u8; LONGEST_IMAGE] = [0; LONGEST_IMAGE];
 
 const ATR_INFO_ID: u16 = 0x2F01;
 const ATR_INFO_SHORT_ID: u8 = 0x01;
@@ -131,6 +133,24 @@ static RECORD_RULES: [RecordRule; 6] = [
         certificates: true,
     },
 ];
+
+/// "A section is a 4-byte little-endian body length L, a 2-byte little-endian kind, then L
+/// bytes": what stands before the body.
+#[derive(Clone, Copy, Debug)]
+pub struct Head {
+    pub length: usize,
+    pub kind: u16,
+}
+
+impl Head {
+    pub fn read(bytes: &[u8; SECTION_HEADER]) -> Option<Self> {
+        let [length @ .., low, high] = bytes;
+        Some(Self {
+            length: little_u32(length)?,
+            kind: u16::from_le_bytes([*low, *high]),
+        })
+    }
+}
 
 /// A record file of the image: its rule, where its body lies and what it holds.
 #[derive(Clone, Copy, Debug)]
@@ -260,6 +280,11 @@ impl BiometricsFile {
         FIRST_BIOMETRICS_ID + self.index as u16
     }
 
+    /// The kind of its section, 0401 to 0440.
+    fn kind(&self) -> u16 {
+        FIRST_BIOMETRICS_KIND + self.index as u16
+    }
+
     /// "Size is w": the bytes written so far.
     fn content<'a>(&self, image: &'a [u8]) -> &'a [u8] {
         let at = self.start + BIOMETRICS_HEADER;
@@ -363,6 +388,10 @@ pub struct Layout {
     /// In the order of [`RECORD_RULES`].
     records: [Option<RecordFile>; RECORD_RULES.len()],
     biometrics: [Option<BiometricsFile>; BIOMETRICS_FILES],
+    /// The kind of the last section, 0 before the first.
+    last_kind: u16,
+    /// Where the last section ends, which is where the image does.
+    pub length: usize,
 }
 
 impl Layout {
@@ -373,36 +402,72 @@ impl Layout {
         if image.len() > LONGEST_IMAGE {
             return None;
         }
-        let mut layout = Self {
-            records: [None; RECORD_RULES.len()],
-            biometrics: [None; BIOMETRICS_FILES],
-        };
-        let mut last_kind = 0;
-        let mut at = 0;
-        while at < image.len() {
-            let (header, rest) = image[at..].split_at_checked(SECTION_HEADER)?;
-            let body = rest.get(..little_u32(header)?)?;
-            let kind = u16::from_le_bytes([header[4], header[5]]);
-            if kind <= last_kind {
-                return None;
-            }
-            layout.add(kind, body, at + SECTION_HEADER)?;
-            last_kind = kind;
-            at += SECTION_HEADER + body.len();
+        let mut layout = Self::without_files();
+        while layout.length < image.len() {
+            let (header, rest) = image[layout.length..].split_first_chunk()?;
+            let head = Head::read(header)?;
+            layout.add(head.kind, rest.get(..head.length)?)?;
         }
         layout.complete().then_some(layout)
     }
 
-    /// Checks one section's body by the rules of its kind and notes the file.
-    fn add(&mut self, kind: u16, body: &[u8], start: usize) -> Option<()> {
-        if let Some(i) = RECORD_RULES.iter().position(|rule| rule.kind == kind) {
+    /// The image of these sections with all of their bodies zero; none where that is no image
+    /// by the rules that [`Layout::read`] goes by.
+    pub fn of_empty(heads: impl Iterator<Item = Head>) -> Option<Self> {
+        let mut layout = Self::without_files();
+        for head in heads {
+            layout.add(head.kind, EMPTY_BODY.get(..head.length)?)?;
+        }
+        (layout.length <= LONGEST_IMAGE && layout.complete()).then_some(layout)
+    }
+
+    /// The image with no sections.
+    fn without_files() -> Self {
+        Self {
+            records: [None; RECORD_RULES.len()],
+            biometrics: [None; BIOMETRICS_FILES],
+            last_kind: 0,
+            length: 0,
+        }
+    }
+
+    /// Checks the next section's body by the rules of its kind and notes the file. "Kinds
+    /// strictly increase."
+    fn add(&mut self, kind: u16, body: &[u8]) -> Option<()> {
+        if kind <= self.last_kind {
+            return None;
+        }
+        let start = self.length + SECTION_HEADER;
+        if let Some(i) = record_rule(kind) {
             self.records[i] = Some(RecordFile::read(&RECORD_RULES[i], body, start)?);
         } else {
-            let index = usize::from(kind.checked_sub(FIRST_BIOMETRICS_KIND)?);
+            let index = biometrics_index(kind)?;
             let slot = self.biometrics.get_mut(index)?;
             *slot = Some(BiometricsFile::read(index, body, start)?);
         }
+        self.last_kind = kind;
+        self.length = start + body.len();
         Some(())
+    }
+
+    /// The kinds of the sections there are.
+    pub fn kinds(&self) -> impl Iterator<Item = u16> + '_ {
+        let records = self.records.iter().flatten().map(|file| file.rule.kind);
+        let biometrics = self.biometrics.iter().flatten().map(BiometricsFile::kind);
+        records.chain(biometrics)
+    }
+
+    /// What the body of a kind holds: count and records, or state, w and the bytes written.
+    /// A kind that is not there holds nothing.
+    pub fn held<'a>(&self, kind: u16, image: &'a [u8]) -> &'a [u8] {
+        let lies = match record_rule(kind) {
+            Some(i) => self.records[i].map(|file| (file.start, file.used)),
+            None => biometrics_index(kind)
+                .and_then(|index| *self.biometrics.get(index)?)
+                .map(|file| (file.start, BIOMETRICS_HEADER + file.written)),
+        };
+        let (start, length) = lies.unwrap_or((0, 0));
+        image.get(start..start + length).unwrap_or(&[])
     }
 
     /// "Travel has all of 0101, 0102, 011A or none; visa both or neither; 04xx needs 031A."
@@ -488,6 +553,16 @@ impl Layout {
         }
         File::Transparent(TransparentFile::Constant(file))
     }
+}
+
+/// The place in [`RECORD_RULES`] of a record file's kind.
+fn record_rule(kind: u16) -> Option<usize> {
+    RECORD_RULES.iter().position(|rule| rule.kind == kind)
+}
+
+/// A biometrics file's number from 0, by its kind; a kind above 0440 gives one that no file has.
+fn biometrics_index(kind: u16) -> Option<usize> {
+    kind.checked_sub(FIRST_BIOMETRICS_KIND).map(usize::from)
 }
 
 /// The 2-byte little-endian number at the start of some bytes.

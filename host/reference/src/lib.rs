@@ -1,5 +1,6 @@
 //! A plain implementation of the passport-chip file machine, written from
-//! document 01 ("The intended build and its rules") alone.
+//! document 01 ("The intended build and its rules") alone, and of the move to a larger chip,
+//! from L14 of document 02 ("What customers want changed later").
 //!
 //! The parts, from the lowest up:
 //! - [`image`]: the card image, its rules, its files and the changes to them;
@@ -7,13 +8,15 @@
 //! - [`session`]: rights, selected application and current place;
 //! - [`apdu`] and [`objects`]: readers of the command's shape and its data objects;
 //! - [`search`]: whether a string occurs in a window;
-//! - [`commands`]: the eight commands.
+//! - [`commands`]: the eight commands;
+//! - [`moving`]: a card carried to rooms of other sizes.
 
 #![forbid(unsafe_code)]
 
 mod apdu;
 mod commands;
 mod image;
+mod moving;
 mod objects;
 mod rights;
 mod search;
@@ -31,13 +34,17 @@ pub const SESSION_LEN: usize = 25;
 /// "response buffer shorter than 2,050 bytes"
 const SHORTEST_RESPONSE: usize = 2_050;
 
-/// "Calls that get no status word": the four numbers of the table.
+/// "Calls that get no status word": the four numbers of the table, and those of L14.
 #[derive(Clone, Copy)]
 enum Refusal {
     Response = 1,
     Image = 2,
     Rights = 3,
     Session = 4,
+    List = 10,
+    Missing = 11,
+    Room = 12,
+    Target = 13,
 }
 
 impl Refusal {
@@ -84,6 +91,19 @@ pub fn command(image: &mut [u8], session: &mut [u8], command: &[u8], response: &
             answer(response, done.data, commands::OK)
         }
         Err(status) => answer(response, 0, status),
+    }
+}
+
+/// Carries a card to rooms of other sizes: writes the old image's files into the target, each
+/// with the room that the list gives it. "A longer target keeps its tail"; on a refusal the
+/// target is untouched.
+///
+/// The list's rows are those of a section's head: a 4-byte little-endian body length, a 2-byte
+/// little-endian kind. The result is refusal * 2^32 + length of the new image.
+pub fn carry(old: &[u8], list: &[u8], target: &mut [u8]) -> u64 {
+    match moving::carry(old, list, target) {
+        Ok(length) => length as u64,
+        Err(refusal) => refusal.result(),
     }
 }
 

@@ -1,0 +1,211 @@
+-- The content of a body in another room, with zeros behind it: it reads there as it does in the body, and that body is right again.
+use Prim.Native.Nat.{ℕ, _+_, _-_, _≤_}
+use mathlib.Core.Path.{_≡_, refl, sym, ap, _∙_}
+use mathlib.Core.Bool.{true, false}
+use mathlib.Core.List.{List, []}
+use native.Mathlib.Omega.{arith}
+use lib.ListN.{length, take, length-replicate, List·getD-append}
+use lib.Seq.{getD-take, length-take-le}
+use borrow.Author.Tests.{le-leb}
+use Rattle.base.specs.Bytes.{part}
+use Rattle.base.proofs.Cases.{by-cases, false-true}
+use Rattle.base.proofs.Parts.{Agree, part-within}
+use Rattle.records.specs.Body.{count, firsts, records, used, bodyOk}
+use Rattle.records.proofs.Numbers.{le16-agree, le32-agree}
+use Rattle.records.proofs.Bodies.{place-low, bodyOk-true, bodyOk-facts}
+use Rattle.records.proofs.Appending.{firsts-agree, okTo-agree}
+use Rattle.bodies.specs.Biometrics.{state, written, room, content, bioOk}
+use Rattle.bodies.specs.Rules.{ruleOf, isBiometrics, kindOkBy, kindOk}
+use Rattle.bodies.specs.declared.rules.Key.the-variants.{Kind}
+use Rattle.bodies.specs.declared.rules.Ruled.{Ruled}
+use Rattle.bodies.specs.declared.rules.Ruled.the-variants.{Is, Nothing}
+use Rattle.bodies.proofs.Updating.{bio-facts, bio-true}
+use Rattle.store.proofs.Laws.{body-used, biometrics-kind}
+use Rattle.rooms.specs.Rooms.{zeros, filled}
+use Rattle.rooms.proofs.Rows.{filled-length}
+use Rattle.rooms.proofs.Empty.{empty-count, empty-written, empty-records, empty-biometrics}
+use Rattle.moving.specs.Moving.{busy}
+
+-- ---- the first b bytes of a body in a room of n bytes
+
+abbrev first : ℕ → List ℕ → ℕ → List ℕ
+first b xs n = filled n (take b xs)
+
+module _ (b : ℕ) (xs : List ℕ) (n : ℕ) (inside : b ≤ length xs) (fit : length (take b xs) ≤ n) where
+  -- that room holds those bytes, and they stand where they stood
+  first-length : length (first b xs n) ≡ n
+  first-length = filled-length n (take b xs) fit
+
+  first-within : b ≤ length (first b xs n)
+  first-within = omega (arith, first-length, length-take-le b xs inside)
+
+  first-agree : Agree xs (first b xs n) 0 b
+  unfolding filled Agree
+  first-agree p h k =
+      let l = length-take-le b xs inside in
+      List·getD-append (take b xs) (zeros (n - length (take b xs))) 0 p (omega arith) ∙ getD-take b xs p 0 k
+
+-- ---- of a record body, the bytes used
+
+module _ (L M : ℕ) (xs : List ℕ) (n : ℕ) (o : bodyOk L M xs ≡ true) (fit : length (take (used xs) xs) ≤ n) where
+  -- the count and every record lie in the bytes used, which both bodies hold
+  inside : used xs ≤ length xs
+  inside = body-used L M xs o
+
+  within : used xs ≤ length (first (used xs) xs n)
+  within = first-within (used xs) xs n inside fit
+
+  low : 2 ≤ used xs
+  unfolding used
+  low = place-low xs (count xs)
+
+  agree : Agree xs (first (used xs) xs n) 0 (used xs)
+  agree = first-agree (used xs) xs n inside fit
+
+  behind-count : Agree xs (first (used xs) xs n) 2 (used xs)
+  unfolding Agree
+  behind-count p h k = agree p (omega arith) k
+
+  -- so both have the same records, and are right together
+  used-count : count (first (used xs) xs n) ≡ count xs
+  unfolding count
+  used-count = le16-agree xs (first (used xs) xs n) 0 (used xs) 0 agree (omega arith) low
+
+  used-records : records (first (used xs) xs n) ≡ records xs
+  unfolding records used
+  used-records =
+      ap (firsts (first (used xs) xs n)) used-count
+      ∙ firsts-agree xs (first (used xs) xs n) (count xs) inside within behind-count (count xs) (omega arith)
+
+  used-ok : bodyOk L M (first (used xs) xs n) ≡ true
+  unfolding used
+  used-ok =
+      let f = bodyOk-facts L M xs o in
+      let c = used-count in
+      bodyOk-true L M (first (used xs) xs n) (omega (arith, low, within)) (omega (arith, f .few))
+      (rw c (okTo-agree xs (first (used xs) xs n) (count xs) inside within behind-count L (count xs) (omega arith) ∙ f .all))
+
+-- ---- of a biometrics body, the state, w and the bytes written
+
+module _ (xs : List ℕ) (n : ℕ) (o : bioOk xs ≡ true) (fit : length (take (5 + written xs) xs) ≤ n) where
+  -- state, w and each byte written lie before 5 + w, which both bodies hold
+  all-inside : 5 + written xs ≤ length xs
+  unfolding room
+  all-inside = let f = bio-facts xs o in omega (arith, f .long, f .within)
+
+  all-within : 5 + written xs ≤ length (first (5 + written xs) xs n)
+  all-within = first-within (5 + written xs) xs n all-inside fit
+
+  all-agree : Agree xs (first (5 + written xs) xs n) 0 (5 + written xs)
+  all-agree = first-agree (5 + written xs) xs n all-inside fit
+
+  all-state : state (first (5 + written xs) xs n) ≡ state xs
+  unfolding state Agree
+  all-state = all-agree 0 (omega arith) (omega arith)
+
+  all-written : written (first (5 + written xs) xs n) ≡ written xs
+  unfolding written
+  all-written = le32-agree xs (first (5 + written xs) xs n) 0 (5 + written xs) 1 all-agree (omega arith) (omega arith)
+
+  all-content : content (first (5 + written xs) xs n) ≡ content xs
+  unfolding content
+  all-content =
+      ap (part (first (5 + written xs) xs n) 5) all-written
+      ∙ part-within xs (first (5 + written xs) xs n) 0 (5 + written xs) 5 (written xs) all-inside all-within all-agree (omega arith) (omega arith)
+
+  -- where the room is not too large for a biometrics file
+  all-ok : bioOk (zeros n) ≡ true → bioOk (first (5 + written xs) xs n) ≡ true
+  unfolding room
+  all-ok z =
+      let f = bio-facts xs o in
+      let l = first-length (5 + written xs) xs n all-inside fit in
+      let m : length (zeros n) ≡ n = length-replicate n 0 in
+      bio-true (first (5 + written xs) xs n)
+      (record {
+        long = omega (arith, all-within);
+        known = omega (arith, all-state, f .known);
+        small = omega (arith, bio-facts (zeros n) z .small);
+        within = omega (arith, all-within, all-written);
+      })
+
+-- ---- of a body that is right for its kind, what is busy
+
+-- a body that is right and not one of biometrics is a record body, and so is each that is right for its kind
+record-kind : (k : ℕ) (xs : List ℕ) → isBiometrics k ≡ false → kindOk k xs ≡ true → (L : ℕ) × (M : ℕ) × ((ys : List ℕ) → kindOk k ys ≡ bodyOk L M ys)
+unfolding kindOk
+record-kind k xs b = go (ruleOf (Kind k)) refl
+  where
+    go : (f : Ruled) → ruleOf (Kind k) ≡ f → kindOkBy f k xs ≡ true → (L : ℕ) × (M : ℕ) × ((ys : List ℕ) → kindOkBy (ruleOf (Kind k)) k ys ≡ bodyOk L M ys)
+    go (Is r) e o = (r .longest, r .most, λ ys. ap (λ (f : Ruled). kindOkBy f k ys) e)
+    go Nothing e o = false-true (rw b at o)
+
+module _ (k : ℕ) (xs : List ℕ) (n : ℕ) (o : kindOk k xs ≡ true) (fit : length (take (busy k xs) xs) ≤ n) where
+  -- the bytes used
+  module _ (b : isBiometrics k ≡ false) where
+    is-used : busy k xs ≡ used xs
+    unfolding busy
+    is-used = rw b
+
+    is-records : (L : ℕ) × (M : ℕ) × ((ys : List ℕ) → kindOk k ys ≡ bodyOk L M ys)
+    is-records = record-kind k xs b o
+
+    records-ok : bodyOk (is-records .0) (is-records .1) xs ≡ true
+    records-ok = sym (is-records .2 xs) ∙ o
+
+    used-fit : length (take (used xs) xs) ≤ n
+    used-fit = rw is-used at fit
+
+    pub kept-records : records (filled n (take (busy k xs) xs)) ≡ records xs
+    kept-records = rw is-used (used-records (is-records .0) (is-records .1) xs n records-ok used-fit)
+
+    kept-used : kindOk k (filled n (take (busy k xs) xs)) ≡ true
+    kept-used = rw is-used (is-records .2 (first (used xs) xs n) ∙ used-ok (is-records .0) (is-records .1) xs n records-ok used-fit)
+
+  -- state, w and the bytes written
+  module _ (b : isBiometrics k ≡ true) where
+    is-all : busy k xs ≡ 5 + written xs
+    unfolding busy
+    is-all = rw b
+
+    bio : bioOk xs ≡ true
+    bio = sym (biometrics-kind k xs b) ∙ o
+
+    all-fit : length (take (5 + written xs) xs) ≤ n
+    all-fit = rw is-all at fit
+
+    pub kept-state : state (filled n (take (busy k xs) xs)) ≡ state xs
+    kept-state = rw is-all (all-state xs n bio all-fit)
+
+    pub kept-written : written (filled n (take (busy k xs) xs)) ≡ written xs
+    kept-written = rw is-all (all-written xs n bio all-fit)
+
+    pub kept-content : content (filled n (take (busy k xs) xs)) ≡ content xs
+    kept-content = rw is-all (all-content xs n bio all-fit)
+
+    kept-all : kindOk k (zeros n) ≡ true → kindOk k (filled n (take (busy k xs) xs)) ≡ true
+    kept-all z =
+        rw is-all (biometrics-kind k (first (5 + written xs) xs n) b ∙ all-ok xs n bio all-fit (sym (biometrics-kind k (zeros n) b) ∙ z))
+
+  -- the new body is right where an empty one of its length is. (The room may be too large for a biometrics file.)
+  pub kept-right : kindOk k (zeros n) ≡ true → kindOk k (filled n (take (busy k xs) xs)) ≡ true
+  kept-right z = by-cases (isBiometrics k) (λ b. kept-all b z) kept-used
+
+-- ---- a room with nothing in it
+
+pub zero-records : (n : ℕ) → records (zeros n) ≡ []
+unfolding records firsts
+zero-records n = ap (firsts (zeros n)) (empty-count n)
+
+pub zero-content : (n : ℕ) → content (zeros n) ≡ []
+unfolding content
+zero-content n = ap (part (zeros n) 5) (empty-written n)
+
+-- it is right if it held a body that was, since that asks no more of an empty one than its length
+pub empty-right : (k : ℕ) (xs : List ℕ) → kindOk k xs ≡ true → kindOk k (zeros (length xs)) ≡ true
+unfolding room
+empty-right k xs o =
+    by-cases (isBiometrics k)
+    (λ b. let f = bio-facts xs (sym (biometrics-kind k xs b) ∙ o) in
+    biometrics-kind k (zeros (length xs)) b ∙ empty-biometrics (length xs) (f .long) ∙ le-leb (length xs) 32773 (omega (arith, f .small)))
+    (λ b. let r = record-kind k xs b o in
+    r .2 (zeros (length xs)) ∙ empty-records (r .0) (r .1) (length xs) ∙ le-leb _ _ (bodyOk-facts (r .0) (r .1) xs (sym (r .2 xs) ∙ o) .long))

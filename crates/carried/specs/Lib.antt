@@ -1,0 +1,2 @@
+-- A move to the same rooms.
+pub mod Same

@@ -1,0 +1,52 @@
+-- `moving::clear` meets its contract.
+use Prim.Native.Nat.{_-_, _≤_}
+use mathlib.Core.Path.{_≡_}
+use mathlib.Core.List.{_++_}
+use native.Mathlib.Omega.{arith}
+use lib.ListN.{length, drop}
+use denote.Ref.{now}
+use Rattle.rooms.specs.Rooms.{zeros}
+use Rattle.moving.proofs.Clearing.{clear-start, clear-size, clear-next, clear-end}
+use Rattle.moving.proofs.clear.Statement.{statement}
+use Rattle.moving.proofs.clear.Tie as tie
+
+abbrev Inv-loop : tie.InvT-loop
+Inv-loop room₀ i₀ room i = (room ≡ zeros i ++ drop i room₀) × (i ≤ length room₀)
+
+abbrev μ-loop : tie.MeasureT-loop
+μ-loop room₀ i₀ room i = length room₀ - i
+
+loop-holds : tie.Need-loop-holds Inv-loop μ-loop
+loop-holds c = (clear-start _, omega arith)
+
+slice-write-room : tie.Need-slice-write-room Inv-loop μ-loop
+slice-write-room c = omega arith
+
+add-i : tie.Need-add-i Inv-loop μ-loop
+add-i c = omega arith
+
+loop-less : tie.Need-loop-less Inv-loop μ-loop
+loop-less c = omega (arith, clear-size _ _ _ (c .before .loop .inv .0) (c .before .loop .inv .1))
+
+loop-again : tie.Need-loop-again Inv-loop μ-loop
+loop-again c = (clear-next _ _ _ (c .before .loop .inv .0) (omega (arith, clear-size _ _ _ (c .before .loop .inv .0) (c .before .loop .inv .1))), omega (arith, clear-size _ _ _ (c .before .loop .inv .0) (c .before .loop .inv .1)))
+
+same-length : tie.Need-same-length Inv-loop μ-loop
+same-length c = clear-size _ _ _ (c .before .loop .inv .0) (c .before .loop .inv .1)
+
+returns : tie.Need-returns Inv-loop μ-loop
+returns c = clear-end (now (c .before .before .args .room)) _ (c .before .loop .i) (c .before .loop .inv .0) (omega (arith, clear-size _ _ _ (c .before .loop .inv .0) (c .before .loop .inv .1)))
+
+pub clear-spec : {M : Type 1} → statement M
+clear-spec =
+    tie.close
+    (tie.spec
+    Inv-loop
+    μ-loop
+    loop-holds
+    slice-write-room
+    add-i
+    loop-less
+    loop-again
+    same-length
+    returns)

@@ -1,0 +1,5 @@
+-- Laws of the rows of a list.
+pub mod Rows
+pub mod Search
+pub mod Empty
+pub mod Blank
