@@ -1,12 +1,11 @@
 -- Two images that one list lays out, with different content in the same rooms: each kind is found in the same room of both, and one
 -- image is right where the other is.
 use Prim.Native.Nat.{ℕ, zero, suc, _+_, _≤_, _<_}
-use mathlib.Core.Path.{_≡_, refl, sym, ap, ap₂, subst, _∙_}
+use mathlib.Core.Path.{_≡_, sym, ap, ap₂, subst, _∙_}
 use mathlib.Core.Bool.{true}
 use mathlib.Core.List.{List}
 use mathlib.Core.Logic.{⊎-elim}
 use native.Mathlib.Omega.{arith}
-use native.Mathlib.Numerals.{add-one}
 use native.Mathlib.Nat.{eq-or-lt-of-le}
 use lib.ListN.{length}
 use lib.Dec.{eqb}
@@ -20,7 +19,7 @@ use Rattle.store.proofs.Presence.{present-same}
 use Rattle.store.proofs.Splicing.{open-sections, sections-of}
 use Rattle.store.proofs.Files.{at-body, at-has, missing-has}
 use Rattle.rooms.specs.Rooms.{rows, roomOf, kindOf, filled, sections, laid}
-use Rattle.rooms.proofs.Rows.{place, len-there, kind-there, room-there, body-there, place-next, end-there}
+use Rattle.rooms.proofs.Rows.{place, len-there, kind-there, room-there, body-there, end-there}
 use Rattle.rooms.proofs.Search.{Fits, all-rows, whole-row, same-place, same-length, Looking, look-start, look-none, look-hit, look-next}
 
 module _ (list : List ℕ) (c d : ℕ → List ℕ) (fc : Fits c list) (fd : Fits d list) where

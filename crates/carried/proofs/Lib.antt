@@ -5,3 +5,4 @@ pub mod Refusals
 pub mod Heads
 pub mod Same
 pub mod Laws
+pub mod Worked

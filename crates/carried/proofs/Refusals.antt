@@ -1,20 +1,18 @@
 -- What a move knows that is not refused, and that nothing else is asked of it.
-use Prim.Native.Nat.{ℕ, zero, suc, _≤_, _<_}
-use mathlib.Core.Path.{_≡_, refl, sym, subst}
+use Prim.Native.Nat.{ℕ, zero, suc, _≤_}
+use mathlib.Core.Path.{_≡_, refl}
 use mathlib.Core.Bool.{true, _&&_}
 use mathlib.Core.List.{List}
-use mathlib.Core.Logic.{⊎-elim}
 use native.Mathlib.Omega.{arith}
-use native.Mathlib.Nat.{eq-or-lt-of-le}
 use lib.ListN.{length}
 use lib.Dec.{leb}
-use borrow.Author.Tests.{lt-leb, le-leb, leb-true, leb-false}
+use borrow.Author.Tests.{lt-leb, le-leb, leb-false}
 use Rattle.base.proofs.Cases.{by-cases, and-left, and-right}
 use Rattle.store.specs.Image.{kindAt, endAt, findFrom, find, has, wellFormed}
 use Rattle.store.specs.declared.image.Found.the-variants.{At}
 use Rattle.store.proofs.Splicing.{no, Way, here-it-is, further, way}
 use Rattle.store.proofs.Files.{There, there, has-at, at-has}
-use Rattle.rooms.specs.Rooms.{rows, roomOf, kindOf, blank}
+use Rattle.rooms.specs.Rooms.{rows, blank}
 use Rattle.rooms.proofs.Search.{Fits}
 use Rattle.moving.specs.Moving.{content, listsFrom, lists, roomyTo, roomy}
 use Rattle.moving.specs.Standing.{Standing}

@@ -10,7 +10,6 @@ use borrow.Author.Tests.{le-leb, lt-leb, leb-true}
 use Rattle.base.proofs.Cases.{by-cases, held}
 use Rattle.store.specs.Image.{wellFormed}
 use Rattle.rooms.specs.Rooms.{nothing, blank, lays, plan}
-use Rattle.rooms.specs.declared.Laid.{Laid}
 use Rattle.rooms.specs.declared.Laid.the-variants.{Total, Unfit}
 use Rattle.rooms.proofs.Search.{same-length}
 use Rattle.rooms.proofs.Blank.{none-fits}

@@ -1,19 +1,20 @@
 -- Laws of contents and their rooms: the first rows fit, and so do all.
-use Prim.Native.Nat.{ℕ, zero, suc, _+_, _≤_, _<_}
-use mathlib.Core.Path.{_≡_, refl, sym, ap, _∙_}
+use Prim.Native.Nat.{ℕ, zero, suc, _+_, _≤_, _<_, min}
+use mathlib.Core.Path.{_≡_, refl, sym, ap, ap₂, _∙_}
 use mathlib.Core.Bool.{true, false, and-false}
 use mathlib.Core.List.{List}
 use mathlib.Core.Logic.{⊎-elim}
 use native.Mathlib.Omega.{arith}
 use native.Mathlib.Numerals.{add-one}
 use native.Mathlib.Nat.{eq-or-lt-of-le}
-use lib.ListN.{length}
+use lib.ListN.{length, length-take}
 use lib.Dec.{leb}
-use borrow.Author.Tests.{le-leb, lt-leb, leb-true, leb-false}
-use Rattle.base.proofs.Cases.{by-cases, false-true}
+use borrow.Author.Tests.{le-leb, leb-true}
+use Rattle.base.proofs.Cases.{by-cases, false-true, leb-same}
+use Rattle.store.specs.Image.{body}
 use Rattle.rooms.specs.Rooms.{rows, roomOf, kindOf}
 use Rattle.rooms.proofs.Search.{Fits}
-use Rattle.moving.specs.Moving.{content, roomyTo, roomy}
+use Rattle.moving.specs.Moving.{busy, content, roomyTo, roomy}
 
 module _ (old list : List ℕ) where
   pub roomy-start : roomyTo old list 0 ≡ true
@@ -34,18 +35,18 @@ module _ (old list : List ℕ) where
       (λ g. simp (spoils n i g e))
       (eq-or-lt-of-le {n = i} {m = n} (omega arith))
 
-  -- as the code has the row's kind j, the length l of its room and the content
-  module _ (i j l : ℕ) (c : List ℕ) (ej : j ≡ kindOf list i) (el : l ≡ roomOf list i) (ec : c ≡ content old j) where
-    same : length c ≡ length (content old (kindOf list i))
-    same = ap length (ec ∙ ap (content old) ej)
+  -- as the code has the row's kind j and the length l of its room
+  module _ (i j l : ℕ) (ej : j ≡ kindOf list i) (el : l ≡ roomOf list i) where
+    same : leb (length (content old j)) l ≡ leb (length (content old (kindOf list i))) (roomOf list i)
+    same = ap₂ (λ (k n : ℕ). leb (length (content old k)) n) ej el
 
-    pub roomy-bad : i < rows list → l < length c → false ≡ roomy old list
+    pub roomy-bad : i < rows list → leb (length (content old j)) l ≡ false → false ≡ roomy old list
     unfolding roomy
-    roomy-bad h g = sym (spoils (rows list) i h (lt-leb (length (content old (kindOf list i))) (roomOf list i) (omega (arith, same))))
+    roomy-bad h g = sym (spoils (rows list) i h (sym same ∙ g))
 
-    pub roomy-next : roomyTo old list i ≡ true → length c ≤ l → roomyTo old list (i + 1) ≡ true
+    pub roomy-next : roomyTo old list i ≡ true → leb (length (content old j)) l ≡ true → roomyTo old list (i + 1) ≡ true
     unfolding roomyTo
-    roomy-next r g = rw add-one (simp (r, le-leb (length (content old (kindOf list i))) (roomOf list i) (omega (arith, same))))
+    roomy-next r g = rw add-one (simp (r, sym same ∙ g))
 
   -- where all fit, each does
   pub roomy-at : roomy old list ≡ true → Fits (content old) list
@@ -54,3 +55,16 @@ module _ (old list : List ℕ) where
       by-cases (leb (length (content old (kindOf list i))) (roomOf list i))
       (λ y. leb-true _ _ y)
       (λ n. false-true (sym (spoils (rows list) i h n) ∙ r))
+
+-- a file whose body is b: all of it fits, or what is busy of it
+module _ (old : List ℕ) (k room : ℕ) (b : List ℕ) (eb : b ≡ body old k) where
+  part-length : length (content old k) ≡ min (busy k b) (length b)
+  unfolding content
+  part-length = rw eb (length-take (busy k (body old k)) (body old k))
+
+  pub whole-fits : length b ≤ room → true ≡ leb (length (content old k)) room
+  whole-fits h = sym (le-leb (length (content old k)) room (omega (arith, part-length)))
+
+  pub busy-fits : room < length b → (n : ℕ) → n ≡ busy k b → leb n room ≡ leb (length (content old k)) room
+  busy-fits h n e =
+      leb-same n room (length (content old k)) room (λ g. omega (arith, part-length)) (λ g. omega (arith, part-length))

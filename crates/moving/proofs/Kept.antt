@@ -1,6 +1,6 @@
 -- Laws of a file's content, as the code has it.
 use Prim.Native.Nat.{ℕ, _+_, _≤_, _<_}
-use mathlib.Core.Path.{_≡_, sym, ap, ap₂, _∙_}
+use mathlib.Core.Path.{_≡_, ap, ap₂, _∙_}
 use mathlib.Core.Bool.{and-false}
 use mathlib.Core.List.{List}
 use lib.ListN.{take}

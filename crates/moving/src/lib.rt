@@ -13,6 +13,7 @@ ghost use mathlib.Core.Bool.{true};
 ghost use mathlib.Core.List.{_++_};
 ghost use Prim.Native.Nat.{_+_, _-_, _≤_};
 ghost use lib.ListN.{length, drop};
+ghost use lib.Dec.{leb};
 ghost use Rattle.store.specs.Image.{has, wellFormed, body};
 ghost use Rattle.rooms.specs.Rooms.{zeros, filled, blank};
 ghost use Rattle.moving.specs.Moving.{busy, content, moved, lists, roomy, carry, carryInto};
@@ -109,6 +110,18 @@ fn lists(old: &[u8], list: &[u8]) -> bool
     true
 }
 
+// Whether the content of the file of a kind fits in a room. Where all of its body does, so does its content, and the records need not be walked.
+fn fits(old: &[u8], from: usize, kind: usize, room: usize) -> bool
+    requires { ⌜ Standing (now old) from ⌝ }
+    ensures { λ r. ⌜ r ≡ leb (length (content (now (old .entry)) kind)) room ⌝ }
+{
+    let b = body_near(old, from, kind);
+    if b.len() <= room {
+        return true;
+    }
+    busy(kind, b) <= room
+}
+
 // Whether each content fits in its room.
 fn roomy(old: &[u8], list: &[u8]) -> bool
     requires { ⌜ wellFormed (now old) ≡ true ⌝ }
@@ -119,7 +132,7 @@ fn roomy(old: &[u8], list: &[u8]) -> bool
     let mut i = 0;
     while i < n {
         let kind = read16(list, 6 * i + 4);
-        if read32(list, 6 * i) < content(old, from, kind).len() {
+        if !fits(old, from, kind, read32(list, 6 * i)) {
             return false;
         }
         from = behind(old, from, kind);
@@ -132,10 +145,10 @@ fn roomy(old: &[u8], list: &[u8]) -> bool
 fn clear(room: &mut [u8])
     ensures { λ _. ⌜ now (room .exit) ≡ zeros (length (now (room .entry))) ⌝ }
 {
-    let mut i = 0;
-    while i < room.len() {
-        room[i] = 0;
-        i += 1;
+    let mut cleared = 0;
+    while cleared < room.len() {
+        room[cleared] = 0;
+        cleared += 1;
     }
 }
 

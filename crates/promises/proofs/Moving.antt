@@ -1,10 +1,9 @@
 -- What a move promises: the laws of the moved image, said of the target.
-use mathlib.Core.Path.{_≡_, sym, subst, ap, _∙_}
+use mathlib.Core.Path.{sym, subst, ap, _∙_}
 use mathlib.Core.List.{List, _++_}
 use Prim.Native.Nat.{ℕ}
-use lib.ListN.{length, take, drop}
-use Rattle.moving.specs.Moving.{moved, carry, carryInto}
-use Rattle.moving.specs.declared.Moved.the-variants.{Image}
+use lib.ListN.{length, drop}
+use Rattle.moving.specs.Moving.{moved}
 use Rattle.moving.proofs.Carrying.{Taken, taken}
 use Rattle.carried.specs.Same.{heads}
 use Rattle.carried.proofs.Laws.{moved-well, moved-files, moved-records, moved-state, moved-written, moved-content, new-records, new-biometrics, same-sizes, same-carried, image-target, image-first}

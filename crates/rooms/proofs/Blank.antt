@@ -1,18 +1,17 @@
 -- Laws of the image that a list lays out with all its files empty: the rows answer for its sections.
-use Prim.Native.Nat.{ℕ, zero, suc, _+_, _-_, _*_, _%_, _≤_, _<_}
+use Prim.Native.Nat.{ℕ, zero, suc, _+_, _-_, _%_, _≤_, _<_}
 use mathlib.Core.Path.{_≡_, refl, sym, ap, subst, _∙_}
-use mathlib.Core.Bool.{Bool, true, false}
+use mathlib.Core.Bool.{true, false}
 use mathlib.Core.List.{List, []}
 use native.Mathlib.Omega.{arith}
 use lib.ListN.{length}
 use lib.Dec.{leb, eqb}
 use borrow.Author.Tests.{leb-true, leb-false, eqb-true, eqb-false, eq-eqb, ne-eqb}
-use Rattle.base.specs.Choice.{pick, every}
+use Rattle.base.specs.Choice.{every}
 use Rattle.base.specs.Bytes.{part}
 use Rattle.base.proofs.Cases.{by-cases}
 use Rattle.bodies.specs.Rules.{kindOk}
-use Rattle.store.specs.Image.{lenAt, kindAt, endAt, isAt, find, has, present, applicationOf, sectionOk, wellFormed}
-use Rattle.store.specs.declared.image.Found.{Found}
+use Rattle.store.specs.Image.{lenAt, kindAt, isAt, has, present, applicationOf, sectionOk, wellFormed}
 use Rattle.store.proofs.Sections.{Seeking, Walking, walk-start, walk-long, walk-end, walk-bad, walk-next, section-order, section-body, section-rest}
 use Rattle.rooms.specs.Rooms.{rows, zeros, roomOf, kindOf, filled, nothing, sections, laid, blank, lays, plan}
 use Rattle.rooms.specs.declared.Laid.the-variants.{Total, Unfit}

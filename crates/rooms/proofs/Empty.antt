@@ -1,8 +1,7 @@
 -- Laws of a room with nothing in it: it is right for its kind by its length alone.
-use Prim.Native.Nat.{ℕ, _+_, _-_, _*_, _≤_, _<_}
-use mathlib.Core.Path.{_≡_, refl, sym, ap, ap₂, _∙_}
-use mathlib.Core.Bool.{true, false, and-true}
-use mathlib.Core.List.{List, []}
+use Prim.Native.Nat.{ℕ, _+_, _-_, _*_, _≤_}
+use mathlib.Core.Path.{_≡_, ap₂}
+use mathlib.Core.Bool.{and-true}
 use native.Mathlib.Omega.{arith}
 use lib.ListN.{length, getD, length-replicate, getD-replicate, List·getD-eq-default}
 use lib.Dec.{leb, ltb}

@@ -1,12 +1,12 @@
 -- Laws of the rows of a list: where the section of each stands in the image that the list lays out, and what stands there.
-use Prim.Native.Nat.{ℕ, zero, suc, _+_, _-_, _*_, _/_, _≤_, _<_}
+use Prim.Native.Nat.{ℕ, zero, suc, _+_, _-_, _*_, _≤_, _<_}
 use mathlib.Core.Path.{_≡_, refl, sym, ap, ap₂, _∙_}
-use mathlib.Core.List.{List, [], _∷_, _++_, append-nil, append-assoc}
+use mathlib.Core.List.{List, [], _++_, append-nil, append-assoc}
 use mathlib.Core.Logic.{⊎-elim}
 use native.Mathlib.Omega.{arith}
 use native.Mathlib.Numerals.{add-one}
 use native.Mathlib.Nat.{eq-or-lt-of-le}
-use lib.ListN.{length, getD, take, drop, length-append, length-replicate, List·getD-append}
+use lib.ListN.{length, getD, take, length-append, length-replicate, List·getD-append}
 use lib.Seq.{getD-append-add, take-at, drop-at}
 use Rattle.base.specs.Bytes.{part}
 use Rattle.base.proofs.Parts.{getD-part, length-part}

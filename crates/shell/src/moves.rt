@@ -11,11 +11,11 @@ fn is_space(c: usize) -> bool {
     c == 32 || c == 9 || c == 13 || c == 10
 }
 
-// Where the next word begins, from `at` on; the end of s where there is none.
-fn start(s: &[u8], at: usize) -> usize {
+// The first space from `at` on, or the first character that is none; the end of s where there is no such.
+fn first(s: &[u8], at: usize, space: bool) -> usize {
     let mut i = at;
     while i < s.len() {
-        if !is_space(base::byte(s, i)) {
+        if is_space(base::byte(s, i)) == space {
             return i;
         }
         i += 1;
@@ -23,16 +23,14 @@ fn start(s: &[u8], at: usize) -> usize {
     s.len()
 }
 
+// Where the next word begins, from `at` on.
+fn start(s: &[u8], at: usize) -> usize {
+    first(s, at, false)
+}
+
 // Where the word ends that begins at `at`.
 fn stop(s: &[u8], at: usize) -> usize {
-    let mut i = at;
-    while i < s.len() {
-        if is_space(base::byte(s, i)) {
-            return i;
-        }
-        i += 1;
-    }
-    s.len()
+    first(s, at, true)
 }
 
 // Where the word behind the one at `at` begins.

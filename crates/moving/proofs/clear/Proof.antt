@@ -11,10 +11,10 @@ use Rattle.moving.proofs.clear.Statement.{statement}
 use Rattle.moving.proofs.clear.Tie as tie
 
 abbrev Inv-loop : tie.InvT-loop
-Inv-loop room₀ i₀ room i = (room ≡ zeros i ++ drop i room₀) × (i ≤ length room₀)
+Inv-loop room₀ cleared₀ room cleared = (room ≡ zeros cleared ++ drop cleared room₀) × (cleared ≤ length room₀)
 
 abbrev μ-loop : tie.MeasureT-loop
-μ-loop room₀ i₀ room i = length room₀ - i
+μ-loop room₀ cleared₀ room cleared = length room₀ - cleared
 
 loop-holds : tie.Need-loop-holds Inv-loop μ-loop
 loop-holds c = (clear-start _, omega arith)
@@ -22,8 +22,8 @@ loop-holds c = (clear-start _, omega arith)
 slice-write-room : tie.Need-slice-write-room Inv-loop μ-loop
 slice-write-room c = omega arith
 
-add-i : tie.Need-add-i Inv-loop μ-loop
-add-i c = omega arith
+add-cleared : tie.Need-add-cleared Inv-loop μ-loop
+add-cleared c = omega arith
 
 loop-less : tie.Need-loop-less Inv-loop μ-loop
 loop-less c = omega (arith, clear-size _ _ _ (c .before .loop .inv .0) (c .before .loop .inv .1))
@@ -35,7 +35,7 @@ same-length : tie.Need-same-length Inv-loop μ-loop
 same-length c = clear-size _ _ _ (c .before .loop .inv .0) (c .before .loop .inv .1)
 
 returns : tie.Need-returns Inv-loop μ-loop
-returns c = clear-end (now (c .before .before .args .room)) _ (c .before .loop .i) (c .before .loop .inv .0) (omega (arith, clear-size _ _ _ (c .before .loop .inv .0) (c .before .loop .inv .1)))
+returns c = clear-end (now (c .before .before .args .room)) _ (c .before .loop .cleared) (c .before .loop .inv .0) (omega (arith, clear-size _ _ _ (c .before .loop .inv .0) (c .before .loop .inv .1)))
 
 pub clear-spec : {M : Type 1} → statement M
 clear-spec =
@@ -45,7 +45,7 @@ clear-spec =
     μ-loop
     loop-holds
     slice-write-room
-    add-i
+    add-cleared
     loop-less
     loop-again
     same-length

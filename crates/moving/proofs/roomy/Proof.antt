@@ -3,6 +3,7 @@ use Prim.Native.Nat.{_-_, _≤_}
 use mathlib.Core.Path.{_≡_}
 use mathlib.Core.Bool.{true}
 use native.Mathlib.Omega.{arith}
+use Rattle.base.proofs.Cases.{flag-no, flag-yes}
 use Rattle.rooms.specs.Rooms.{rows}
 use Rattle.moving.specs.Moving.{roomyTo}
 use Rattle.moving.specs.Standing.{Standing}
@@ -36,12 +37,12 @@ mul-read32 c = omega arith
 read32-requires : tie.Need-read32-requires Inv-loop μ-loop
 read32-requires c κs = search needs
 
-content-requires : tie.Need-content-requires Inv-loop μ-loop
-content-requires c κs = c .before .before .before .loop .inv .0
+fits-requires : tie.Need-fits-requires Inv-loop μ-loop
+fits-requires c κs = c .before .before .before .loop .inv .0
 
 returns : tie.Need-returns Inv-loop μ-loop
 unfolding rows
-returns c = roomy-bad _ _ (c .before .before .before .before .before .loop .i) _ _ _ (c .before .before .before .read16 .ensures .0) (c .before .before .read32 .ensures .0) (c .before .content .ensures) (c .before .before .before .before .loop-test .taken) (c .if1 .taken)
+returns c = roomy-bad _ _ (c .before .before .before .before .before .loop .i) _ _ (c .before .before .before .read16 .ensures .0) (c .before .before .read32 .ensures .0) (c .before .before .before .before .loop-test .taken) (flag-no (c .before .fits2 .ensures) (c .if1 .taken))
 
 behind-requires : tie.Need-behind-requires Inv-loop μ-loop
 behind-requires c κs = c .before .before .before .before .before .loop .inv .0
@@ -54,7 +55,7 @@ loop-less c = omega arith
 
 loop-again : tie.Need-loop-again Inv-loop μ-loop
 unfolding rows
-loop-again c = (c .behind .ensures, roomy-next _ _ (c .before .before .before .before .before .before .loop .i) _ _ _ (c .before .before .before .before .read16 .ensures .0) (c .before .before .before .read32 .ensures .0) (c .before .before .content .ensures) (c .before .before .before .before .before .before .loop .inv .1) (c .before .if1 .left), omega arith)
+loop-again c = (c .behind .ensures, roomy-next _ _ (c .before .before .before .before .before .before .loop .i) _ _ (c .before .before .before .before .read16 .ensures .0) (c .before .before .before .read32 .ensures .0) (c .before .before .before .before .before .before .loop .inv .1) (flag-yes (c .before .before .fits2 .ensures) (c .before .if1 .left)), omega arith)
 
 returns-2 : tie.Need-returns-2 Inv-loop μ-loop
 unfolding rows
@@ -72,7 +73,7 @@ roomy-spec =
     read16-requires
     mul-read32
     read32-requires
-    content-requires
+    fits-requires
     returns
     behind-requires
     add-i

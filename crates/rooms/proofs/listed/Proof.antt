@@ -1,10 +1,8 @@
 -- `rooms::listed` meets its contract.
-use Prim.Native.Nat.{_-_, _/_, _≤_}
+use Prim.Native.Nat.{_-_, _≤_}
 use native.Mathlib.Omega.{arith}
 use borrow.Author.Needs.{needs}
-use lib.ListN.{length}
 use Rattle.rooms.specs.Rooms.{rows}
-use Rattle.rooms.proofs.Rows.{row-inside}
 use Rattle.rooms.proofs.Blank.{Looking, look-start, look-none, look-hit, look-next}
 use Rattle.rooms.proofs.listed.Statement.{statement}
 use Rattle.rooms.proofs.listed.Tie as tie
@@ -16,15 +14,12 @@ abbrev μ-loop : tie.MeasureT-loop
 μ-loop list kind n i₀ i = n - i
 
 loop-holds : tie.Need-loop-holds Inv-loop μ-loop
-unfolding rows
 loop-holds c = (look-start _ _, omega arith)
 
 mul-read16 : tie.Need-mul-read16 Inv-loop μ-loop
-unfolding rows
 mul-read16 c = omega arith
 
 add-read16 : tie.Need-add-read16 Inv-loop μ-loop
-unfolding rows
 add-read16 c = omega arith
 
 read16-requires : tie.Need-read16-requires Inv-loop μ-loop
@@ -35,11 +30,9 @@ unfolding rows
 returns c = look-hit _ _ _ (c .before .before .before .loop .inv .0) (c .before .before .loop-test .taken) _ (c .before .read16 .ensures .0) (c .if1 .taken)
 
 add-i : tie.Need-add-i Inv-loop μ-loop
-unfolding rows
 add-i c = omega arith
 
 loop-less : tie.Need-loop-less Inv-loop μ-loop
-unfolding rows
 loop-less c = omega arith
 
 loop-again : tie.Need-loop-again Inv-loop μ-loop

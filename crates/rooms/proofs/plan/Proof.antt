@@ -1,10 +1,9 @@
 -- `rooms::plan` meets its contract.
 use Prim.Native.Nat.{_-_, _≤_}
-use mathlib.Core.Path.{_≡_, refl, sym, _∙_}
+use mathlib.Core.Path.{_≡_, refl}
 use native.Mathlib.Omega.{arith}
-use lib.ListN.{length}
 use Rattle.base.proofs.Cases.{flag-no, flag-yes}
-use Rattle.rooms.specs.Rooms.{rows, nothing, sections}
+use Rattle.rooms.specs.Rooms.{rows, sections}
 use Rattle.rooms.proofs.Blank.{at as place, Laying, lay-start, lay-next, at-next, plan-torn, plan-long, plan-bad, plan-total}
 use borrow.Author.Needs.{needs}
 use Rattle.rooms.proofs.plan.Statement.{statement}

@@ -1,15 +1,15 @@
--- `shell::moves::stop` meets its contract.
+-- `shell::moves::first` meets its contract.
 use lib.ListN.{length}
 use Prim.Native.Nat.{_-_, _≤_}
 use borrow.Author.Needs.{needs}
-use Rattle.shell.proofs.moves.stop.Statement.{statement}
-use Rattle.shell.proofs.moves.stop.Tie as tie
+use Rattle.shell.proofs.moves.first.Statement.{statement}
+use Rattle.shell.proofs.moves.first.Tie as tie
 
 abbrev Inv-loop : tie.InvT-loop
-Inv-loop s at i₀ i = at ≤ i
+Inv-loop s at space i₀ i = at ≤ i
 
 abbrev μ-loop : tie.MeasureT-loop
-μ-loop s at i₀ i = length s - i
+μ-loop s at space i₀ i = length s - i
 
 loop-holds : tie.Need-loop-holds Inv-loop μ-loop
 loop-holds c = search needs
@@ -35,8 +35,8 @@ loop-again c = search needs
 returns-2 : tie.Need-returns-2 Inv-loop μ-loop
 returns-2 c = search needs
 
-pub stop-spec : {M : Type 1} → statement M
-stop-spec =
+pub first-spec : {M : Type 1} → statement M
+first-spec =
     tie.close
     (tie.spec
     Inv-loop
