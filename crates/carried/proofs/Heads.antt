@@ -1,12 +1,12 @@
 -- The rows of `heads old` are the sections of the old image: its own bodies in these rooms are the old image again.
-use Prim.Native.Nat.{ℕ, zero, suc, _+_, _-_, _*_, _≤_, _<_}
+use Prim.Native.Nat.{ℕ, zero, suc, _+_, _-_, _*_, _%_, _≤_, _<_}
 use mathlib.Core.Path.{_≡_, refl, sym, ap, ap₂, _∙_}
 use mathlib.Core.Bool.{true}
 use mathlib.Core.List.{List, [], _++_, append-nil, append-assoc}
 use native.Mathlib.Omega.{arith}
 use native.Mathlib.Nat.{add-zero}
-use lib.ListN.{length, take, length-append}
-use lib.Seq.{take-at, drop-at, take-add, take-all}
+use lib.ListN.{length, take, drop, length-append, take-append-drop, drop-of-length-le}
+use lib.Seq.{take-at, drop-at, drop-drop, take-add, take-all}
 use lib.Dec.{leb}
 use borrow.Author.Tests.{lt-leb, le-leb, leb-true, leb-false}
 use Rattle.base.specs.Bytes.{part}
@@ -18,7 +18,8 @@ use Rattle.store.specs.Image.{lenAt, kindAt, endAt, find, has, wellFormed, body
 use Rattle.store.specs.declared.image.Found.the-variants.{At}
 use Rattle.store.proofs.Files.{at-body, at-has, at-length}
 use Rattle.rooms.specs.Rooms.{rows, roomOf, kindOf, zeros, filled, section, sections, laid}
-use Rattle.rooms.proofs.Rows.{row-inside}
+use Rattle.rooms.proofs.Rows.{row-inside, place, head-there, end-there}
+use Rattle.rooms.proofs.Search.{Fits, all-rows, whole-row}
 use Rattle.carried.specs.Same.{headsFrom, heads}
 use Rattle.moving.specs.Standing.{Standing}
 use Rattle.moving.proofs.Walk.{stand-start, Here, here}
@@ -50,6 +51,31 @@ heads-step (suc f) old p e h = (f, omega arith, simp (lt-leb _ _ h))
 pub full : (n : ℕ) (xs : List ℕ) → length xs ≡ n → filled n xs ≡ xs
 unfolding filled
 full n xs e = let z : n - length xs ≡ 0 = omega arith in ap (λ (m : ℕ). xs ++ zeros m) z ∙ append-nil xs
+
+-- ---- the heads of an image that a list lays out are the list
+
+module _ (c : ℕ → List ℕ) (list : List ℕ) (fit : Fits c list) where
+  row-and-rest : (i : ℕ) → part list (6 * i) 6 ++ drop (6 * (i + 1)) list ≡ drop (6 * i) list
+  row-and-rest i =
+      let e : 6 * i + 6 ≡ 6 * (i + 1) = omega arith in
+      ap (λ (x : List ℕ). part list (6 * i) 6 ++ x) (ap (λ (n : ℕ). drop n list) (sym e) ∙ sym (drop-drop 6 (6 * i) list))
+      ∙ take-append-drop 6 (drop (6 * i) list)
+
+  pub laid-heads : length list % 6 ≡ 0 → heads (laid c list) ≡ list
+  unfolding heads sections rows
+  laid-heads even = go (rows list) 0 (length (laid c list)) (omega arith) (omega arith)
+    where
+      go : (r i f : ℕ) → i + r ≡ rows list → length (laid c list) ≤ place c list i + f → headsFrom f (laid c list) (place c list i) ≡ drop (6 * i) list
+      go zero i f e n =
+          let l : place c list i ≡ length (laid c list) = ap (place c list) (let q : i ≡ rows list = omega arith in q) ∙ all-rows c list fit in
+          heads-end f (laid c list) (place c list i) (omega arith) ∙ sym (drop-of-length-le list {i = 6 * i} (omega arith))
+      go (suc r) i f e n =
+          let h : i < rows list = omega arith in
+          let s = heads-step f (laid c list) (place c list i) n (omega (arith, whole-row c list fit i h)) in
+          let next = end-there c list i h (fit i h) in
+          s .2
+          ∙ ap₂ (λ (x y : List ℕ). x ++ y) (head-there c list i h) (ap (headsFrom (s .0) (laid c list)) next ∙ go r (i + 1) (s .0) (omega arith) (omega (arith, s .1, next)))
+          ∙ row-and-rest i
 
 module _ (old : List ℕ) (well : wellFormed old ≡ true) where
   -- ---- from row to row

@@ -6,7 +6,7 @@ use mathlib.Core.List.{List, [], _++_}
 use native.Mathlib.Omega.{arith}
 use lib.ListN.{length, take, drop}
 use lib.Seq.{take-nil, take-at}
-use borrow.Author.Tests.{le-leb, eq-eqb}
+use borrow.Author.Tests.{le-leb, eqb-true, eq-eqb}
 use Rattle.base.proofs.Cases.{by-cases, held, all-held}
 use Rattle.records.specs.Body.{records}
 use Rattle.bodies.specs.Biometrics.{state, written}
@@ -26,7 +26,7 @@ use Rattle.moving.proofs.Carrying.{moved-length, taken}
 use Rattle.carried.proofs.Contents.{kept-records, kept-state, kept-written, kept-content, kept-right, zero-records, zero-content}
 use Rattle.carried.proofs.Refusals.{all-fit, listed, all-listed}
 use Rattle.carried.proofs.Found.{has-same, filled-body, well-too}
-use Rattle.carried.proofs.Heads.{own-rows}
+use Rattle.carried.proofs.Heads.{laid-heads, own-rows}
 use Rattle.carried.proofs.Same.{content-fits, empty-has, empty-length, empty-well, own-moved}
 
 -- a kind that is not in the old image has no content
@@ -49,6 +49,11 @@ module _ (old list : List ℕ) (well : wellFormed old ≡ true) (lay : lays list
           (λ y. kept-right (kindOf list i) (body old (kindOf list i)) (roomOf list i) (body-right old (kindOf list i) well y) (roomy-at old list fit i h)
           (rw filled-nothing at z))
           (λ n. rw (no-content old (kindOf list i) n) z)
+
+  -- it has the rooms of the list
+  pub moved-rooms : heads (moved old list) ≡ list
+  unfolding moved lays
+  moved-rooms = laid-heads (content old) list (roomy-at old list fit) (eqb-true (length list % 6) 0 (held _ lay .0))
 
   -- it has the files of the list, and with them those of the old image
   pub moved-has : (k : ℕ) → has (moved old list) k ≡ has (blank list) k

@@ -2,10 +2,9 @@
 use Prim.Native.Nat.{ℕ, _+_, _≤_, _<_}
 use mathlib.Core.Path.{_≡_}
 use mathlib.Core.Bool.{Bool, true}
-use mathlib.Core.List.{List, []}
+use mathlib.Core.List.{List, [], _∷_}
 use lib.ListN.{length}
 use lib.Dec.{ltb, eqb}
-use mathlib.Core.List.{_∷_}
 use Rattle.base.specs.Choice.{every}
 use Rattle.store.specs.Image.{kindAt, findFrom, find, sectionsOk}
 

@@ -110,7 +110,8 @@ fn lists(old: &[u8], list: &[u8]) -> bool
     true
 }
 
-// Whether the content of the file of a kind fits in a room. Where all of its body does, so does its content, and the records need not be walked.
+// Whether the content of the file of a kind fits in a room. Where all of its body does, so does its content, and its records need not be
+// walked.
 fn fits(old: &[u8], from: usize, kind: usize, room: usize) -> bool
     requires { ⌜ Standing (now old) from ⌝ }
     ensures { λ r. ⌜ r ≡ leb (length (content (now (old .entry)) kind)) room ⌝ }

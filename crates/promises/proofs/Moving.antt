@@ -6,7 +6,7 @@ use lib.ListN.{length, drop}
 use Rattle.moving.specs.Moving.{moved}
 use Rattle.moving.proofs.Carrying.{Taken, taken}
 use Rattle.carried.specs.Same.{heads}
-use Rattle.carried.proofs.Laws.{moved-well, moved-files, moved-records, moved-state, moved-written, moved-content, new-records, new-biometrics, same-sizes, same-carried, image-target, image-first}
+use Rattle.carried.proofs.Laws.{moved-well, moved-rooms, moved-files, moved-records, moved-state, moved-written, moved-content, new-records, new-biometrics, same-sizes, same-carried, image-target, image-first}
 use Rattle.promises.specs.Promises.{Carried, Carries, Same-sizes}
 
 pub carries : Carries
@@ -18,6 +18,7 @@ carries old list t n e = subst (Carried old list t n) (sym (image-first old list
           whole = image-target old list t n e;
           size = g .is;
           well = moved-well old list (g .well) (g .lay) (g .all) (g .fit);
+          rooms = moved-rooms old list (g .well) (g .lay) (g .all) (g .fit);
           files = moved-files old list (g .well) (g .lay) (g .all) (g .fit);
           records = moved-records old list (g .well) (g .lay) (g .all) (g .fit);
           biometrics = λ k b h. (

@@ -219,6 +219,8 @@ pub record Carried (old list t : List ℕ) (n : ℕ) (new : List ℕ) : Type 0 w
   pub whole : carryInto old list t ≡ new ++ drop n t
   pub size : length new ≡ n
   pub well : wellFormed new ≡ true
+  -- "a list of kinds with new body lengths": its sections have the list's heads
+  pub rooms : heads new ≡ list
   -- "every file of the old one, all records under their old numbers"
   pub files : (k : ℕ) → has old k ≡ true → has new k ≡ true
   pub records : (k : ℕ) → isBiometrics k ≡ false → recordsOf new k ≡ recordsOf old k

@@ -76,6 +76,16 @@ module _ (c : ℕ → List ℕ) (list : List ℕ) where
     head-length : length (part list (6 * i) 6) ≡ 6
     head-length = length-part list (6 * i) 6 (row-inside list i h)
 
+    -- its head is the row
+    pub head-there : part (laid c list) (place i) 6 ≡ part list (6 * i) 6
+    unfolding section
+    head-there =
+        let h : List ℕ = part list (6 * i) 6 in
+        let b : List ℕ = filled (roomOf list i) (c (kindOf list i)) in
+        ap (λ (x : List ℕ). part x (place i) 6) (there ∙ ap (λ (x : List ℕ). sections c list i ++ x) (append-assoc h b tail))
+        ∙ ap (take 6) (drop-at (sections c list i) (h ++ (b ++ tail)) (place i) refl)
+        ∙ take-at h (b ++ tail) 6 head-length
+
     row-byte : (j : ℕ) → j < 6 → getD (laid c list) (place i + j) 0 ≡ getD list (6 * i + j) 0
     unfolding section
     row-byte j k =

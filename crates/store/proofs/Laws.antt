@@ -1,4 +1,5 @@
--- What the layers above rely on, and all that they cite of the store's proofs. Of a body alone first, then of an image by its files.
+-- What the layers above rely on, and all that they cite of the store's proofs; but the crates of the move, which is about sections, cite
+-- Sections, Presence, Splicing and Files too. Of a body alone first, then of an image by its files.
 use Prim.Native.Nat.{ℕ, zero, suc, _+_, _-_, _≤_, _<_, max}
 use mathlib.Core.Path.{_≡_, refl, sym, ap, ap₂, _∙_}
 use mathlib.Core.Bool.{true, false}
