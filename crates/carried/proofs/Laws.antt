@@ -22,7 +22,7 @@ use Rattle.carried.specs.Same.{heads, FreeZero}
 use Rattle.moving.specs.declared.Moved.{Moved}
 use Rattle.moving.specs.declared.Moved.the-variants.{Image, Refused}
 use Rattle.moving.proofs.Fitting.{roomy-at}
-use Rattle.moving.proofs.Carrying.{moved-length, taken}
+use Rattle.moving.proofs.Carrying.{moved-length, Taken, taken}
 use Rattle.carried.proofs.Contents.{kept-records, kept-state, kept-written, kept-content, kept-right, zero-records, zero-content}
 use Rattle.carried.proofs.Refusals.{all-fit, listed, all-listed}
 use Rattle.carried.proofs.Found.{has-same, filled-body, well-too}
@@ -36,37 +36,38 @@ no-content old k e = ap (take (busy k (body old k))) (lacks-body old k e) ∙ ta
 
 -- ---- the laws
 
-module _ (old list : List ℕ) (well : wellFormed old ≡ true) (lay : lays list ≡ true) (all : lists old list ≡ true) (fit : roomy old list ≡ true) where
+-- of a move that is not refused
+module _ (old list : List ℕ) {n l : ℕ} (g : Taken old list n l) where
   -- the new image is as document 01 says
   pub moved-well : wellFormed (moved old list) ≡ true
   unfolding moved lays blank content
-  moved-well = well-too list nothing (content old) (none-fits list) (roomy-at old list fit) right (held _ lay .1 .0)
+  moved-well = well-too list nothing (content old) (none-fits list) (roomy-at old list (g .fit)) right (held _ (g .lay) .1 .0)
     where
       right : (i : ℕ) → i < rows list → kindOk (kindOf list i) (filled (roomOf list i) []) ≡ true
           → kindOk (kindOf list i) (filled (roomOf list i) (content old (kindOf list i))) ≡ true
       right i h z =
           by-cases (has old (kindOf list i))
-          (λ y. kept-right (kindOf list i) (body old (kindOf list i)) (roomOf list i) (body-right old (kindOf list i) well y) (roomy-at old list fit i h)
+          (λ y. kept-right (kindOf list i) (body old (kindOf list i)) (roomOf list i) (body-right old (kindOf list i) (g .well) y) (roomy-at old list (g .fit) i h)
           (rw filled-nothing at z))
           (λ n. rw (no-content old (kindOf list i) n) z)
 
   -- it has the rooms of the list
   pub moved-rooms : heads (moved old list) ≡ list
   unfolding moved lays
-  moved-rooms = laid-heads (content old) list (roomy-at old list fit) (eqb-true (length list % 6) 0 (held _ lay .0))
+  moved-rooms = laid-heads (content old) list (roomy-at old list (g .fit)) (eqb-true (length list % 6) 0 (held _ (g .lay) .0))
 
   -- it has the files of the list, and with them those of the old image
   pub moved-has : (k : ℕ) → has (moved old list) k ≡ has (blank list) k
   unfolding moved blank
-  moved-has k = has-same list nothing (content old) (none-fits list) (roomy-at old list fit) k
+  moved-has k = has-same list nothing (content old) (none-fits list) (roomy-at old list (g .fit)) k
 
   pub moved-files : (k : ℕ) → has old k ≡ true → has (moved old list) k ≡ true
-  moved-files k h = moved-has k ∙ listed old list k all h
+  moved-files k h = moved-has k ∙ listed old list k (g .all) h
 
   -- the file of kind k, where there is one: its content with zeros behind it
   new-file : (k : ℕ) → has (moved old list) k ≡ true → (n : ℕ) × (length (content old k) ≤ n) × (body (moved old list) k ≡ filled n (content old k))
   unfolding moved
-  new-file = filled-body list nothing (content old) (none-fits list) (roomy-at old list fit)
+  new-file = filled-body list nothing (content old) (none-fits list) (roomy-at old list (g .fit))
 
   -- ---- a kind that is not in the old image
 
@@ -99,22 +100,22 @@ module _ (old list : List ℕ) (well : wellFormed old ≡ true) (lay : lays list
   unfolding recordsOf content
   moved-records k b =
       by-cases (has old k)
-      (λ h. let f = old-file k h in ap records (f .2) ∙ kept-records k (body old k) (f .0) (body-right old k well h) (f .1) b)
+      (λ h. let f = old-file k h in ap records (f .2) ∙ kept-records k (body old k) (f .0) (body-right old k (g .well) h) (f .1) b)
       (λ e. new-records k e b ∙ sym (ap records (lacks-body old k e) ∙ zero-records 0))
 
   -- biometrics with state and w, and the bytes written
   module _ (k : ℕ) (b : isBiometrics k ≡ true) (h : has old k ≡ true) where
     pub moved-state : state (body (moved old list) k) ≡ state (body old k)
     unfolding content
-    moved-state = let f = old-file k h in ap state (f .2) ∙ kept-state k (body old k) (f .0) (body-right old k well h) (f .1) b
+    moved-state = let f = old-file k h in ap state (f .2) ∙ kept-state k (body old k) (f .0) (body-right old k (g .well) h) (f .1) b
 
     pub moved-written : written (body (moved old list) k) ≡ written (body old k)
     unfolding content
-    moved-written = let f = old-file k h in ap written (f .2) ∙ kept-written k (body old k) (f .0) (body-right old k well h) (f .1) b
+    moved-written = let f = old-file k h in ap written (f .2) ∙ kept-written k (body old k) (f .0) (body-right old k (g .well) h) (f .1) b
 
     pub moved-content : bytes (body (moved old list) k) ≡ bytes (body old k)
     unfolding content
-    moved-content = let f = old-file k h in ap bytes (f .2) ∙ kept-content k (body old k) (f .0) (body-right old k well h) (f .1) b
+    moved-content = let f = old-file k h in ap bytes (f .2) ∙ kept-content k (body old k) (f .0) (body-right old k (g .well) h) (f .1) b
 
 -- ---- the same sizes
 

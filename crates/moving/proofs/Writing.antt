@@ -55,6 +55,18 @@ module _ (s head c a b z : List ℕ) (six : length head ≡ 6) (fits : 6 + lengt
 
 -- ---- the whole image
 
+-- a turn of the loop, at row i: the target is t and was t₀, the place of the row's section is p, the length of its room l
+pub record Turn (old list t₀ t : List ℕ) (i p l : ℕ) : Type 0 where
+  pub fits : length (content old (kindOf list i)) ≤ l
+  pub next-place : p + 6 + l ≡ length (sections (content old) list (i + 1))
+  pub inside : p + 6 + l ≤ length t₀
+  pub size : length t ≡ length t₀
+  pub part-size : length (part t p (p + 6 + l - p)) ≡ 6 + l
+  -- as the code has its head and its content, and the section that came back
+  pub written : (head c sec : List ℕ) → head ≡ part list (6 * i) 6 → c ≡ content old (kindOf list i)
+      → sec ≡ head ++ filled (length (part t p (p + 6 + l - p)) - 6) c
+      → take p t ++ (sec ++ drop (p + 6 + l - p) (drop p t)) ≡ sections (content old) list (i + 1) ++ drop (length (sections (content old) list (i + 1))) t₀
+
 module _ (old list t₀ : List ℕ) (fit : roomy old list ≡ true) (long : length (moved old list) ≤ length t₀) where
   -- the sections of the first i rows
   abbrev pub ready : ℕ → List ℕ
@@ -72,32 +84,31 @@ module _ (old list t₀ : List ℕ) (fit : roomy old list ≡ true) (long : leng
   write-size t i e w =
       ap length (write-end t i e w) ∙ length-append (moved old list) (drop (length (moved old list)) t₀) ∙ (let d = length-drop (length (moved old list)) t₀ in omega arith)
 
-  -- row i, where the target is t, the place of its section p, and the length of its room l
+  -- row i
   module _ (i p l : ℕ) (t : List ℕ) (h : i < rows list) (w : t ≡ ready i ++ drop (length (ready i)) t₀) (ep : p ≡ length (ready i)) (el : l ≡ roomOf list i) where
-    pub room-fits : length (content old (kindOf list i)) ≤ l
+    room-fits : length (content old (kindOf list i)) ≤ l
     room-fits = rw el (roomy-at old list fit i h)
 
-    pub ready-next : p + 6 + l ≡ length (ready (i + 1))
+    ready-next : p + 6 + l ≡ length (ready (i + 1))
     ready-next = omega (arith, place-next (content old) list i h (roomy-at old list fit i h))
 
-    pub end-in : p + 6 + l ≤ length t₀
+    end-in : p + 6 + l ≤ length t₀
     unfolding moved
     end-in = omega (arith, ready-next, end-inside (content old) list i h (roomy-at old list fit i h))
 
-    pub same-size : length t ≡ length t₀
+    same-size : length t ≡ length t₀
     same-size =
         ap length w ∙ length-append (ready i) (drop (length (ready i)) t₀) ∙ (let d = length-drop (length (ready i)) t₀ in omega (arith, end-in))
 
-    pub part-size : length (part t p (p + 6 + l - p)) ≡ 6 + l
-    part-size = length-part t p (p + 6 + l - p) (omega (arith, end-in, same-size)) ∙ omega arith
+    as-long : length (part t p (p + 6 + l - p)) ≡ 6 + l
+    as-long = length-part t p (p + 6 + l - p) (omega (arith, end-in, same-size)) ∙ omega arith
 
-    -- as the code has its head and its content, and the section that came back
-    pub write-next : (head c sec : List ℕ) → head ≡ part list (6 * i) 6 → c ≡ content old (kindOf list i)
+    write-next : (head c sec : List ℕ) → head ≡ part list (6 * i) 6 → c ≡ content old (kindOf list i)
         → sec ≡ head ++ filled (length (part t p (p + 6 + l - p)) - 6) c
         → take p t ++ (sec ++ drop (p + 6 + l - p) (drop p t)) ≡ ready (i + 1) ++ drop (length (ready (i + 1))) t₀
     unfolding sections section
     write-next head c sec eh ec es =
-        let room : length (part t p (p + 6 + l - p)) - 6 ≡ roomOf list i = omega (arith, part-size) in
+        let room : length (part t p (p + 6 + l - p)) - 6 ≡ roomOf list i = omega (arith, as-long) in
         let s : sec ≡ section (content old) list i = es ∙ ap₂ (λ (x y : List ℕ). x ++ y) eh (ap₂ filled room ec) in
         let front : take p t ≡ ready i = ap (take p) w ∙ take-at (ready i) (drop (length (ready i)) t₀) p (sym ep) in
         let back : drop p t ≡ drop (length (ready i)) t₀ = ap (drop p) w ∙ drop-at (ready i) (drop (length (ready i)) t₀) p (sym ep) in
@@ -107,3 +118,6 @@ module _ (old list t₀ : List ℕ) (fit : roomy old list ≡ true) (long : leng
         ap₂ (λ (x y : List ℕ). x ++ y) front (ap₂ (λ (x y : List ℕ). x ++ y) s tail)
         ∙ sym (append-assoc (ready i) (section (content old) list i) (drop (length (ready (i + 1))) t₀))
         ∙ ap (λ (n : ℕ). sections (content old) list n ++ drop (length (ready (i + 1))) t₀) (sym (add-one i))
+
+    pub turn : Turn old list t₀ t i p l
+    turn = record { fits = room-fits; next-place = ready-next; inside = end-in; size = same-size; part-size = as-long; written = write-next }

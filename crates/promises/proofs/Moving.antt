@@ -17,17 +17,17 @@ carries old list t n e = subst (Carried old list t n) (sym (image-first old list
         record {
           whole = image-target old list t n e;
           size = g .is;
-          well = moved-well old list (g .well) (g .lay) (g .all) (g .fit);
-          rooms = moved-rooms old list (g .well) (g .lay) (g .all) (g .fit);
-          files = moved-files old list (g .well) (g .lay) (g .all) (g .fit);
-          records = moved-records old list (g .well) (g .lay) (g .all) (g .fit);
+          well = moved-well old list g;
+          rooms = moved-rooms old list g;
+          files = moved-files old list g;
+          records = moved-records old list g;
           biometrics = λ k b h. (
-            moved-state old list (g .well) (g .lay) (g .all) (g .fit) k b h,
-            moved-written old list (g .well) (g .lay) (g .all) (g .fit) k b h,
-            moved-content old list (g .well) (g .lay) (g .all) (g .fit) k b h,
+            moved-state old list g k b h,
+            moved-written old list g k b h,
+            moved-content old list g k b h,
           );
-          none = λ k b h. new-records old list (g .well) (g .lay) (g .all) (g .fit) k h b;
-          deactivated = λ k b h. new-biometrics old list (g .well) (g .lay) (g .all) (g .fit) k h b;
+          none = λ k b h. new-records old list g k h b;
+          deactivated = λ k b h. new-biometrics old list g k h b;
         }
 
 pub same : Same-sizes

@@ -1,18 +1,17 @@
 -- `moving::write` meets its contract.
-use Prim.Native.Nat.{ℕ, _+_, _-_, _≤_}
+use Prim.Native.Nat.{_-_, _≤_}
 use mathlib.Core.Path.{_≡_, refl, ap, _∙_}
-use mathlib.Core.List.{List, _++_}
+use mathlib.Core.List.{_++_}
 use native.Mathlib.Omega.{arith}
 use lib.ListN.{length, drop}
 use denote.Ref.{now}
-use Rattle.base.specs.Bytes.{part}
 use Rattle.base.proofs.Parts.{length-part}
 use Rattle.rooms.specs.Rooms.{rows, kindOf, sections}
 use Rattle.rooms.proofs.Rows.{row-inside}
 use Rattle.moving.specs.Moving.{content}
 use Rattle.moving.specs.Standing.{Standing}
 use Rattle.moving.proofs.Walk.{stand-start}
-use Rattle.moving.proofs.Writing.{write-start, write-end, write-size, end-in, same-size, part-size, room-fits, ready-next, write-next}
+use Rattle.moving.proofs.Writing.{Turn, turn, write-start, write-end, write-size}
 use borrow.Author.Needs.{needs}
 use Rattle.moving.proofs.write.Statement.{statement}
 use Rattle.moving.proofs.write.Tie as tie
@@ -38,7 +37,7 @@ read16-requires c κs = search needs
 
 add-end : tie.Need-add-end Inv-loop μ-loop
 unfolding rows
-add-end c = omega (arith, end-in _ _ _ (c .before .before .before .before .before .before .pre .1) (c .before .before .before .before .before .before .pre .2) (c .before .before .loop .i) (c .before .before .loop .at) _ _ (c .before .loop-test .taken) (c .before .before .loop .inv .0) (c .before .before .loop .inv .1) refl)
+add-end c = omega (arith, turn _ _ _ (c .before .before .before .before .before .before .pre .1) (c .before .before .before .before .before .before .pre .2) (c .before .before .loop .i) (c .before .before .loop .at) _ _ (c .before .loop-test .taken) (c .before .before .loop .inv .0) (c .before .before .loop .inv .1) refl .inside)
 
 mul-read32 : tie.Need-mul-read32 Inv-loop μ-loop
 mul-read32 c = omega arith
@@ -47,34 +46,13 @@ read32-requires : tie.Need-read32-requires Inv-loop μ-loop
 read32-requires c κs = search needs
 
 -- row i of the list, where its section is to be written
-module _ (c : tie.After-read32 Inv-loop μ-loop) where
-  abbrev T : List ℕ
-  T = now (c .before .before .before .before .before .before .before .args .target)
-
-  abbrev place : ℕ
-  place = c .before .before .before .loop .at
-
-  abbrev room : ℕ
-  room = c .read32 .result
-
-  end-in-here : place + 6 + room ≤ length T
-  unfolding rows
-  end-in-here = end-in _ _ _ (c .before .before .before .before .before .before .before .pre .1) (c .before .before .before .before .before .before .before .pre .2) (c .before .before .before .loop .i) _ _ _ (c .before .before .loop-test .taken) (c .before .before .before .loop .inv .0) (c .before .before .before .loop .inv .1) (c .read32 .ensures .0)
-
-  same-size-here : length (c .before .before .before .loop .target) ≡ length T
-  unfolding rows
-  same-size-here = same-size _ _ _ (c .before .before .before .before .before .before .before .pre .1) (c .before .before .before .before .before .before .before .pre .2) (c .before .before .before .loop .i) _ _ _ (c .before .before .loop-test .taken) (c .before .before .before .loop .inv .0) (c .before .before .before .loop .inv .1) (c .read32 .ensures .0)
-
-  part-size-here : length (part (c .before .before .before .loop .target) place (place + 6 + room - place)) ≡ 6 + room
-  unfolding rows
-  part-size-here = part-size _ _ _ (c .before .before .before .before .before .before .before .pre .1) (c .before .before .before .before .before .before .before .pre .2) (c .before .before .before .loop .i) _ _ _ (c .before .before .loop-test .taken) (c .before .before .before .loop .inv .0) (c .before .before .before .loop .inv .1) (c .read32 .ensures .0)
-
-  room-fits-here : length (content (now (c .before .before .before .before .before .before .before .args .old)) (kindOf (now (c .before .before .before .before .before .before .before .args .list)) (c .before .before .before .loop .i))) ≤ room
-  unfolding rows
-  room-fits-here = room-fits _ _ _ (c .before .before .before .before .before .before .before .pre .1) (c .before .before .before .before .before .before .before .pre .2) (c .before .before .before .loop .i) _ _ _ (c .before .before .loop-test .taken) (c .before .before .before .loop .inv .0) (c .before .before .before .loop .inv .1) (c .read32 .ensures .0)
+row : (c : tie.After-read32 Inv-loop μ-loop)
+    → Turn (now (c .before .before .before .before .before .before .before .args .old)) (now (c .before .before .before .before .before .before .before .args .list)) (now (c .before .before .before .before .before .before .before .args .target)) (c .before .before .before .loop .target) (c .before .before .before .loop .i) (c .before .before .before .loop .at) (c .read32 .result)
+unfolding rows
+row c = turn _ _ _ (c .before .before .before .before .before .before .before .pre .1) (c .before .before .before .before .before .before .before .pre .2) _ _ _ _ (c .before .before .loop-test .taken) (c .before .before .before .loop .inv .0) (c .before .before .before .loop .inv .1) (c .read32 .ensures .0)
 
 add-end-2 : tie.Need-add-end-2 Inv-loop μ-loop
-add-end-2 c = omega (arith, end-in-here c)
+add-end-2 c = omega (arith, row c .inside)
 
 sub-write-section : tie.Need-sub-write-section Inv-loop μ-loop
 sub-write-section c = omega arith
@@ -83,7 +61,7 @@ part-write-section-start : tie.Need-part-write-section-start Inv-loop μ-loop
 part-write-section-start c = omega arith
 
 part-write-section-end : tie.Need-part-write-section-end Inv-loop μ-loop
-part-write-section-end c = omega (arith, end-in-here c, same-size-here c)
+part-write-section-end c = omega (arith, row c .inside, row c .size)
 
 mul-part : tie.Need-mul-part Inv-loop μ-loop
 mul-part c = omega arith
@@ -99,7 +77,7 @@ unfolding rows
 write-section-requires c κs =
     let same : length (now (c .content .result)) ≡ length (content (now (c .before .before .before .before .before .before .before .before .before .before .args .old)) (kindOf (now (c .before .before .before .before .before .before .before .before .before .before .args .list)) (c .before .before .before .before .before .before .loop .i))) =
     ap length (c .content .ensures ∙ ap (content (now (c .before .before .before .before .before .before .before .before .before .before .args .old))) (c .before .before .before .before .read16 .ensures .0)) in
-    (ap length (c .before .part .ensures) ∙ length-part _ _ 6 (row-inside (now (c .before .before .before .before .before .before .before .before .before .before .args .list)) (c .before .before .before .before .before .before .loop .i) (c .before .before .before .before .before .loop-test .taken)), omega (arith, same, part-size-here (c .before .before .before), room-fits-here (c .before .before .before)))
+    (ap length (c .before .part .ensures) ∙ length-part _ _ 6 (row-inside (now (c .before .before .before .before .before .before .before .before .before .before .args .list)) (c .before .before .before .before .before .before .loop .i) (c .before .before .before .before .before .loop-test .taken)), omega (arith, same, row (c .before .before .before) .part-size, row (c .before .before .before) .fits))
 
 behind-requires : tie.Need-behind-requires Inv-loop μ-loop
 behind-requires c κs = c .before .before .before .before .before .before .before .before .before .loop .inv .2
@@ -112,13 +90,9 @@ loop-less c = omega arith
 
 loop-again : tie.Need-loop-again Inv-loop μ-loop
 unfolding rows
-loop-again c = (
-  write-next _ _ _ (c .before .before .before .before .before .before .before .before .before .before .before .before .before .before .pre .1) (c .before .before .before .before .before .before .before .before .before .before .before .before .before .before .pre .2) (c .before .before .before .before .before .before .before .before .before .before .loop .i) _ _ _ (c .before .before .before .before .before .before .before .before .before .loop-test .taken) (c .before .before .before .before .before .before .before .before .before .before .loop .inv .0) (c .before .before .before .before .before .before .before .before .before .before .loop .inv .1) (c .before .before .before .before .before .before .before .read32 .ensures .0)
-      _ _ _ (c .before .before .before .before .before .part .ensures) (c .before .before .before .before .content .ensures ∙ ap (content (now (c .before .before .before .before .before .before .before .before .before .before .before .before .before .before .args .old))) (c .before .before .before .before .before .before .before .before .read16 .ensures .0)) (c .before .before .before .write-section .ensures),
-  ready-next _ _ _ (c .before .before .before .before .before .before .before .before .before .before .before .before .before .before .pre .1) (c .before .before .before .before .before .before .before .before .before .before .before .before .before .before .pre .2) (c .before .before .before .before .before .before .before .before .before .before .loop .i) _ _ _ (c .before .before .before .before .before .before .before .before .before .loop-test .taken) (c .before .before .before .before .before .before .before .before .before .before .loop .inv .0) (c .before .before .before .before .before .before .before .before .before .before .loop .inv .1) (c .before .before .before .before .before .before .before .read32 .ensures .0),
-  c .behind .ensures,
-  omega arith,
-)
+loop-again c =
+    let content-there = c .before .before .before .before .content .ensures ∙ ap (content (now (c .before .before .before .before .before .before .before .before .before .before .before .before .before .before .args .old))) (c .before .before .before .before .before .before .before .before .read16 .ensures .0) in
+    (row (c .before .before .before .before .before .before .before) .written _ _ _ (c .before .before .before .before .before .part .ensures) content-there (c .before .before .before .write-section .ensures), row (c .before .before .before .before .before .before .before) .next-place, c .behind .ensures, omega arith)
 
 same-length : tie.Need-same-length Inv-loop μ-loop
 unfolding rows
