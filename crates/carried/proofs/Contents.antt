@@ -1,19 +1,19 @@
 -- The content of a body in another room, with zeros behind it: it reads there as it does in the body, and that body is right again.
-use Prim.Native.Nat.{ℕ, _+_, _-_, _≤_}
+use Prim.Native.Nat.{ℕ, zero, suc, _+_, _-_, _≤_, min}
 use mathlib.Core.Path.{_≡_, refl, sym, ap, _∙_}
 use mathlib.Core.Bool.{true, false}
-use mathlib.Core.List.{List, []}
+use mathlib.Core.List.{List, [], _∷_, _++_, append-assoc}
 use native.Mathlib.Omega.{arith}
-use lib.ListN.{length, take, length-replicate, List·getD-append}
+use lib.ListN.{length, take, length-append, length-replicate, length-take, List·getD-append}
 use lib.Seq.{getD-take, length-take-le}
 use borrow.Author.Tests.{le-leb}
 use Rattle.base.specs.Bytes.{part}
 use Rattle.base.proofs.Cases.{by-cases, false-true}
 use Rattle.base.proofs.Parts.{Agree, part-within}
-use Rattle.records.specs.Body.{count, firsts, records, used, bodyOk}
+use Rattle.records.specs.Body.{count, place, firsts, records, used, bodyOk}
 use Rattle.records.proofs.Numbers.{le16-agree, le32-agree}
 use Rattle.records.proofs.Bodies.{place-low, bodyOk-true, bodyOk-facts}
-use Rattle.records.proofs.Appending.{firsts-agree, okTo-agree}
+use Rattle.records.proofs.Appending.{place-agree, firsts-agree, okTo-agree}
 use Rattle.bodies.specs.Biometrics.{state, written, room, content, bioOk}
 use Rattle.bodies.specs.Rules.{ruleOf, isBiometrics, kindOkBy, kindOk}
 use Rattle.bodies.specs.declared.rules.Key.the-variants.{Kind}
@@ -44,6 +44,42 @@ module _ (b : ℕ) (xs : List ℕ) (n : ℕ) (inside : b ≤ length xs) (fit : l
   first-agree p h k =
       let l = length-take-le b xs inside in
       List·getD-append (take b xs) (zeros (n - length (take b xs))) 0 p (omega arith) ∙ getD-take b xs p 0 k
+
+-- ---- zeros behind
+
+take-zeros : (j p : ℕ) → take j (zeros p) ≡ zeros (min j p)
+take-zeros zero p = let e : 0 ≡ min 0 p = omega arith in ap zeros e
+take-zeros (suc j) zero = let e : 0 ≡ min (suc j) 0 = omega arith in ap zeros e
+take-zeros (suc j) (suc p) = let e : suc (min j p) ≡ min (suc j) (suc p) = omega arith in ap (λ (l : List ℕ). 0 ∷ l) (take-zeros j p) ∙ ap zeros e
+
+zeros-append : (a b : ℕ) → zeros a ++ zeros b ≡ zeros (a + b)
+zeros-append zero b = let e : b ≡ 0 + b = omega arith in ap zeros e
+zeros-append (suc a) b = let e : suc (a + b) ≡ suc a + b = omega arith in ap (λ (l : List ℕ). 0 ∷ l) (zeros-append a b) ∙ ap zeros e
+
+take-behind : (c : List ℕ) (m p : ℕ) → length c ≤ m → take m (c ++ zeros p) ≡ c ++ zeros (min (m - length c) p)
+take-behind [] m p h = let e : min m p ≡ min (m - 0) p = omega arith in take-zeros m p ∙ ap zeros e
+take-behind (x ∷ c) zero p h = absurd (omega arith)
+take-behind (x ∷ c) (suc m) p h =
+    let e : min (m - length c) p ≡ min (suc m - suc (length c)) p = omega arith in
+    ap (λ (l : List ℕ). x ∷ l) (take-behind c m p (omega arith)) ∙ ap (λ (q : ℕ). x ∷ (c ++ zeros q)) e
+
+-- the first m bytes of a filled room, where they hold all that was put there, fill another room as that does
+pub refit : (c : List ℕ) (m n r : ℕ) → length c ≤ m → length c ≤ n → length (take m (filled n c)) ≤ r → filled r (take m (filled n c)) ≡ filled r c
+unfolding filled
+refit c m n r h k i =
+    let p : ℕ = n - length c in
+    let q : ℕ = min (m - length c) p in
+    let t : take m (c ++ zeros p) ≡ c ++ zeros q = take-behind c m p h in
+    let l : length (c ++ zeros q) ≡ length c + length (zeros q) = length-append c (zeros q) in
+    let z : length (zeros q) ≡ q = length-replicate q 0 in
+    let u : length (take m (c ++ zeros p)) ≡ length (c ++ zeros q) = ap length t in
+    let e : q + (r - length (c ++ zeros q)) ≡ r - length c = omega (arith, l, z, u, i) in
+    ap (λ (x : List ℕ). x ++ zeros (r - length x)) t
+    ∙ append-assoc c (zeros q) (zeros (r - length (c ++ zeros q)))
+    ∙ ap (λ (x : List ℕ). c ++ x) (zeros-append q (r - length (c ++ zeros q)) ∙ ap zeros e)
+
+pub refill : (c : List ℕ) (m n : ℕ) → length c ≤ m → length c ≤ n → filled n (take m (filled n c)) ≡ filled n c
+refill c m n h k = refit c m n n h k (omega (arith, length-take m (filled n c), filled-length n c k))
 
 -- ---- of a record body, the bytes used
 
@@ -76,6 +112,12 @@ module _ (L M : ℕ) (xs : List ℕ) (n : ℕ) (o : bodyOk L M xs ≡ true) (fit
   used-records =
       ap (firsts (first (used xs) xs n)) used-count
       ∙ firsts-agree xs (first (used xs) xs n) (count xs) inside within behind-count (count xs) (omega arith)
+
+  used-same : used (first (used xs) xs n) ≡ used xs
+  unfolding used
+  used-same =
+      ap (place (first (used xs) xs n)) used-count
+      ∙ place-agree xs (first (used xs) xs n) (count xs) inside within behind-count (count xs) (omega arith)
 
   used-ok : bodyOk L M (first (used xs) xs n) ≡ true
   unfolding used
@@ -185,6 +227,13 @@ module _ (k : ℕ) (xs : List ℕ) (n : ℕ) (o : kindOk k xs ≡ true) (fit : l
     kept-all : kindOk k (zeros n) ≡ true → kindOk k (filled n (take (busy k xs) xs)) ≡ true
     kept-all z =
         rw is-all (biometrics-kind k (first (5 + written xs) xs n) b ∙ all-ok xs n bio all-fit (sym (biometrics-kind k (zeros n) b) ∙ z))
+
+  -- as much is busy in the new body
+  pub kept-busy : busy k (filled n (take (busy k xs) xs)) ≡ busy k xs
+  kept-busy =
+      by-cases (isBiometrics k)
+      (λ b. rw (is-all b) (unfold busy in rw b (ap (λ (w : ℕ). 5 + w) (all-written xs n (bio b) (all-fit b)))))
+      (λ b. rw (is-used b) (unfold busy in rw b (used-same (is-records b .0) (is-records b .1) xs n (records-ok b) (used-fit b))))
 
   -- the new body is right where an empty one of its length is. (The room may be too large for a biometrics file.)
   pub kept-right : kindOk k (zeros n) ≡ true → kindOk k (filled n (take (busy k xs) xs)) ≡ true

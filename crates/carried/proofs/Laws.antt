@@ -1,20 +1,22 @@
 -- What the layers above rely on, and all that they cite of this crate's proofs: what is in the image after a move.
-use Prim.Native.Nat.{ℕ, _%_, _≤_, _<_}
-use mathlib.Core.Path.{_≡_, sym, ap, _∙_}
+use Prim.Native.Nat.{ℕ, zero, suc, _*_, _%_, _≤_, _<_}
+use mathlib.Core.Path.{_≡_, refl, sym, ap, ap₂, subst, _∙_}
 use mathlib.Core.Bool.{true, false}
 use mathlib.Core.List.{List, [], _++_}
 use native.Mathlib.Omega.{arith}
-use lib.ListN.{length, take, drop}
+use lib.ListN.{length, take, drop, length-take}
 use lib.Seq.{take-nil, take-at}
 use borrow.Author.Tests.{le-leb, eqb-true, eq-eqb}
-use Rattle.base.proofs.Cases.{by-cases, held, all-held}
+use Rattle.base.specs.Bytes.{part}
+use Rattle.base.proofs.Cases.{by-cases, false-true, held, all-held}
 use Rattle.records.specs.Body.{records}
 use Rattle.bodies.specs.Biometrics.{state, written}
 use Rattle.bodies.specs.Biometrics.{content as bytes}
 use Rattle.bodies.specs.Rules.{isBiometrics, kindOk}
 use Rattle.store.specs.Image.{has, wellFormed, body, recordsOf}
 use Rattle.store.proofs.Files.{lacks-body, body-right}
-use Rattle.rooms.specs.Rooms.{rows, roomOf, kindOf, zeros, filled, nothing, blank, lays}
+use Rattle.rooms.specs.Rooms.{rows, roomOf, kindOf, zeros, filled, section, sections, laid, nothing, blank, lays}
+use Rattle.rooms.proofs.Rows.{filled-length}
 use Rattle.rooms.proofs.Empty.{empty-state, empty-written}
 use Rattle.rooms.proofs.Blank.{filled-nothing, none-fits}
 use Rattle.moving.specs.Moving.{busy, content, moved, lists, roomy, left, carry, carryInto}
@@ -23,7 +25,7 @@ use Rattle.moving.specs.declared.Moved.{Moved}
 use Rattle.moving.specs.declared.Moved.the-variants.{Image, Refused}
 use Rattle.moving.proofs.Fitting.{roomy-at}
 use Rattle.moving.proofs.Carrying.{moved-length, Taken, taken}
-use Rattle.carried.proofs.Contents.{kept-records, kept-state, kept-written, kept-content, kept-right, zero-records, zero-content}
+use Rattle.carried.proofs.Contents.{refit, refill, kept-records, kept-state, kept-written, kept-content, kept-busy, kept-right, zero-records, zero-content}
 use Rattle.carried.proofs.Refusals.{all-fit, listed, all-listed}
 use Rattle.carried.proofs.Found.{has-same, filled-body, well-too}
 use Rattle.carried.proofs.Heads.{laid-heads, own-rows}
@@ -117,6 +119,24 @@ module _ (old list : List ℕ) {n l : ℕ} (g : Taken old list n l) where
     unfolding content
     moved-content = let f = old-file k h in ap bytes (f .2) ∙ kept-content k (body old k) (f .0) (body-right old k (g .well) h) (f .1) b
 
+  -- what is busy in a new body holds all the content
+  all-busy : (k n : ℕ) → length (content old k) ≤ n → length (content old k) ≤ busy k (filled n (content old k))
+  unfolding content
+  all-busy k n i =
+      by-cases (has old k)
+      (λ y. omega (arith, length-take (busy k (body old k)) (body old k), kept-busy k (body old k) n (body-right old k (g .well) y) i))
+      (λ e. let z : length (take (busy k (body old k)) (body old k)) ≡ 0 = ap length (no-content old k e) in omega (arith, z))
+
+  -- "free bytes become zero"
+  pub moved-free : FreeZero (moved old list)
+  unfolding FreeZero content
+  moved-free k h =
+      let f = new-file k h in
+      let c : List ℕ = take (busy k (body old k)) (body old k) in
+      subst (λ (y : List ℕ). y ≡ filled (length y) (take (busy k y) y)) (sym (f .2))
+      (sym (ap (λ (m : ℕ). filled m (take (busy k (filled (f .0) c)) (filled (f .0) c))) (filled-length (f .0) c (f .1))
+      ∙ refill c (busy k (filled (f .0) c)) (f .0) (all-busy k (f .0) (f .1)) (f .1)))
+
 -- ---- the same sizes
 
 module _ (old : List ℕ) (well : wellFormed old ≡ true) where
@@ -138,6 +158,47 @@ module _ (old : List ℕ) (well : wellFormed old ≡ true) where
   same-carried n h =
       let l : length (moved old (heads old)) ≡ length old = moved-length old (heads old) (same-taken .2) ∙ empty-length old well in
       rw (well, same-taken .0, same-taken .1, same-taken .2, l, le-leb _ _ h)
+
+-- ---- a move of what was moved
+
+sections-same : (c d : ℕ → List ℕ) (list : List ℕ) (n : ℕ) → ((i : ℕ) → i < n → filled (roomOf list i) (c (kindOf list i)) ≡ filled (roomOf list i) (d (kindOf list i)))
+    → sections c list n ≡ sections d list n
+unfolding sections section
+sections-same c d list zero h = refl
+sections-same c d list (suc n) h =
+    ap₂ (λ (a b : List ℕ). a ++ (part list (6 * n) 6 ++ b)) (sections-same c d list n (λ i l. h i (omega arith))) (h n (omega arith))
+
+module _ (old a b : List ℕ) {n l m j : ℕ} (g : Taken old a n l) (q : Taken (moved old a) b m j) where
+  -- what is carried on from the new image fills a room as what was carried from the old one does
+  same-room : (k r : ℕ) → length (content (moved old a) k) ≤ r
+      → (length (content old k) ≤ r) × (filled r (content (moved old a) k) ≡ filled r (content old k))
+  same-room k r i =
+      by-cases (has (moved old a) k)
+      (λ h. let f = new-file old a g k h in
+      let c = content old k in
+      let w = all-busy old a g k (f .0) (f .1) in
+      let e : content (moved old a) k ≡ take (busy k (filled (f .0) c)) (filled (f .0) c) = unfold content in ap (λ (y : List ℕ). take (busy k y) y) (f .2) in
+      let u : length (content (moved old a) k) ≡ length (take (busy k (filled (f .0) c)) (filled (f .0) c)) = ap length e in
+      let v : length (take (busy k (filled (f .0) c)) (filled (f .0) c)) ≤ r = omega (arith, u, i) in (
+        omega (arith, v, w, f .1, length-take (busy k (filled (f .0) c)) (filled (f .0) c), filled-length (f .0) c (f .1)),
+        ap (filled r) e ∙ refit c (busy k (filled (f .0) c)) (f .0) r w (f .1) v,
+      ))
+      (λ e. let z = no-content old k (by-cases (has old k) (λ y. false-true (sym e ∙ moved-files old a g k y)) (λ x. x)) in
+      let y = no-content (moved old a) k e in
+      (omega (arith, ap length z), ap (filled r) (y ∙ sym z)))
+
+  pub moved-twice : moved (moved old a) b ≡ moved old b
+  unfolding moved laid
+  moved-twice = sections-same (content (moved old a)) (content old) b (rows b) (λ i h. same-room (kindOf b i) (roomOf b i) (roomy-at (moved old a) b (q .fit) i h) .1)
+
+  -- and no refusal comes in between
+  pub twice-carried : carry old b m ≡ Image j
+  unfolding carry
+  twice-carried =
+      let e : lists old b ≡ true = all-listed old b (g .well) (λ k h. listed (moved old a) b k (q .all) (moved-files old a g k h)) in
+      let f : roomy old b ≡ true = all-fit old b (λ i h. same-room (kindOf b i) (roomOf b i) (roomy-at (moved old a) b (q .fit) i h) .0) in
+      let z : length (moved old b) ≡ j = ap length (sym moved-twice) ∙ q .is in
+      rw (g .well, q .lay, e, f, z, le-leb j m (omega (arith, q .long, q .is)))
 
 -- ---- the target
 

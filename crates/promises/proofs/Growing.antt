@@ -73,11 +73,11 @@ module _ (img : List ℕ) (o : wellFormed img ≡ true) where
       }
 
 -- a file that bytes are written in is a biometrics file of the image
-record Written (img : List ℕ) (f : File) : Type 0 where
+pub record Written (img : List ℕ) (f : File) : Type 0 where
   pub kind : isBiometrics (kindOf f) ≡ true
   pub stands : has img (kindOf f) ≡ true
 
-written : (img : List ℕ) (s : Session) (f : File) → FileReached img s WriteBytes f → Written img f
+pub written : (img : List ℕ) (s : Session) (f : File) → FileReached img s WriteBytes f → Written img f
 unfolding suits permitted kindOf
 written img s Missing r = false-true (r .allowed)
 written img s Info r = false-true (r .allowed)
@@ -166,7 +166,7 @@ module _ (img : List ℕ) (s : Session) (cmd buf : List ℕ) (o : wellFormed img
 
   -- a write is taken
   module _ (f : File) (w : Writes) (d : List ℕ) (a : Writable img s f w) where
-    write-taken : takes (body img (kindOf f)) (w .offset) (length (part d (w .bytes .at) (w .bytes .len))) ≡ true
+    pub write-taken : takes (body img (kindOf f)) (w .offset) (length (part d (w .bytes .at) (w .bytes .len))) ≡ true
     unfolding takes
     write-taken =
         let i = written img s f (a .file) in
@@ -174,7 +174,7 @@ module _ (img : List ℕ) (s : Session) (cmd buf : List ℕ) (o : wellFormed img
         let l : w .offset + length (part d (w .bytes .at) (w .bytes .len)) ≤ room (body img (kindOf f)) = omega (arith, length-take (w .bytes .len) (drop (w .bytes .at) d)) in
         all-held _ (biometrics-file img (kindOf f) o (i .kind) (i .stands), (a .behind, (le-leb _ _ l, tt)))
 
-    write-changes : Changed img (updateIn img (kindOf f) (w .offset) (part d (w .bytes .at) (w .bytes .len))) (kindOf f)
+    pub write-changes : Changed img (updateIn img (kindOf f) (w .offset) (part d (w .bytes .at) (w .bytes .len))) (kindOf f)
     write-changes =
         let i = written img s f (a .file) in
         update-changes img (kindOf f) o (i .kind) (i .stands) (w .offset) (part d (w .bytes .at) (w .bytes .len)) write-taken

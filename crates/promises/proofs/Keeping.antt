@@ -1,13 +1,16 @@
 -- What a call keeps, whatever it answers.
-use Prim.Native.Nat.{ℕ, _+_, _≤_}
+use Prim.Native.Nat.{ℕ, _+_}
 use mathlib.Core.Path.{_≡_, refl, sym, ap, _∙_}
-use mathlib.Core.List.{List, [], _++_}
+use mathlib.Core.List.{List, [], _∷_, _++_, List·Memᴰ, List·Memᴰ·head, List·Memᴰ·tail}
 use native.Mathlib.Omega.{arith}
 use lib.ListN.{length, drop, length-append}
 use lib.Seq.{length-sets}
+use lib.Dec.{ltb}
 use Rattle.base.specs.Bytes.{fits, put}
 use Rattle.base.proofs.Cases.{pick-ind}
 use Rattle.base.proofs.Runs.{drop-sets-past}
+use Rattle.store.specs.Image.{wellFormed}
+use Rattle.session.specs.Session.{fits as sessionFits}
 use Rattle.session.specs.Refusals.{numberOf, refusal}
 use Rattle.session.specs.declared.Session.{Session}
 use Rattle.session.specs.declared.Refusal.{Refusal}
@@ -22,7 +25,7 @@ use Rattle.machine.specs.Step.{taken, step}
 use Rattle.promises.specs.Promises.{Kept, Says-no}
 
 -- a run stored at the start changes nothing behind it
-put-rest : (buf vs : List ℕ) → drop (length vs) (put buf 0 vs) ≡ drop (length vs) buf
+pub put-rest : (buf vs : List ℕ) → drop (length vs) (put buf 0 vs) ≡ drop (length vs) buf
 unfolding put
 put-rest buf vs =
     pick-ind (λ (l : List ℕ). drop (length vs) l ≡ drop (length vs) buf) (fits buf 0 vs) (λ e. drop-sets-past (length vs) buf 0 vs (omega arith)) (λ e. refl)
@@ -41,7 +44,7 @@ module _ (img : List ℕ) (s : Session) (buf : List ℕ) where
         session-kept = j;
         rest-kept = ap (λ (n : ℕ). drop n (put buf 0 (dat ++ word w))) (sym long) ∙ put-rest buf (dat ++ word w) ∙ ap (λ (n : ℕ). drop n buf) long;
         size-kept = put-size buf (dat ++ word w);
-        number = omega arith;
+        number = List·Memᴰ·head refl;
         refused = λ h. absurd (omega (arith, h));
       }
     where
@@ -68,8 +71,8 @@ module _ (img : List ℕ) (s : Session) (buf : List ℕ) where
   done-kept (Seek r q ne) d = in-order (Kept img s buf) _ _ (word-kept 0x6282, (word-kept 0x6700, tt)) (λ p. effect-kept _ _ _)
   done-kept (Report f p2) d = effect-kept _ _ _
 
-  refused-kept : (x : Refusal) → 1 ≤ numberOf x → numberOf x ≤ 4 → Kept img s buf (outcome (refused x s) img buf)
-  refused-kept x l h =
+  refused-kept : (x : Refusal) → List·Memᴰ (numberOf x) (0 ∷ 1 ∷ 2 ∷ 4 ∷ []) → Kept img s buf (outcome (refused x s) img buf)
+  refused-kept x h =
       record {
         image-kept = λ e. refl;
         session-kept = λ e. refl;
@@ -79,14 +82,25 @@ module _ (img : List ℕ) (s : Session) (buf : List ℕ) where
         refused = λ e. (refl, refl, refl, refl, refl);
       }
 
-  taken-kept : (x : Refusal) (cmd : List ℕ) → Kept img s buf (taken x img s cmd buf)
+  -- number 3 is no command's
+  taken-kept : (x : Refusal) (cmd : List ℕ) → (numberOf x ≡ 3 → ⊥) → Kept img s buf (taken x img s cmd buf)
   unfolding taken numberOf
-  taken-kept Taken cmd = done-kept (decide img s cmd) (dataOf cmd)
-  taken-kept ShortBuffer cmd = refused-kept ShortBuffer (omega arith) (omega arith)
-  taken-kept BadImage cmd = refused-kept BadImage (omega arith) (omega arith)
-  taken-kept BadRights cmd = refused-kept BadRights (omega arith) (omega arith)
-  taken-kept BadSession cmd = refused-kept BadSession (omega arith) (omega arith)
+  taken-kept Taken cmd n = done-kept (decide img s cmd) (dataOf cmd)
+  taken-kept ShortBuffer cmd n = refused-kept ShortBuffer (List·Memᴰ·tail (List·Memᴰ·head refl))
+  taken-kept BadImage cmd n = refused-kept BadImage (List·Memᴰ·tail (List·Memᴰ·tail (List·Memᴰ·head refl)))
+  taken-kept BadRights cmd n = absurd (n refl)
+  taken-kept BadSession cmd n = refused-kept BadSession (List·Memᴰ·tail (List·Memᴰ·tail (List·Memᴰ·tail (List·Memᴰ·head refl))))
+
+  not-rights : numberOf (refusal img s (length buf)) ≡ 3 → ⊥
+  unfolding refusal numberOf
+  not-rights =
+      let P : Refusal → Type 0 = λ x. numberOf x ≡ 3 → ⊥ in
+      pick-ind P (ltb (length buf) 2050)
+      (λ _ z. omega (arith, z))
+      (λ _. pick-ind P (wellFormed img)
+      (λ _. pick-ind P (sessionFits img s) (λ _ z. omega (arith, z)) (λ _ z. omega (arith, z)))
+      (λ _ z. omega (arith, z)))
 
 pub step-kept : Says-no
 unfolding step
-step-kept img s cmd buf = taken-kept img s buf (refusal img s (length buf)) cmd
+step-kept img s cmd buf = taken-kept img s buf (refusal img s (length buf)) cmd (not-rights img s buf)

@@ -1,13 +1,14 @@
 -- What a move promises: the laws of the moved image, said of the target.
-use mathlib.Core.Path.{sym, subst, ap, _∙_}
+use mathlib.Core.Path.{_≡_, sym, subst, ap, _∙_}
 use mathlib.Core.List.{List, _++_}
 use Prim.Native.Nat.{ℕ}
 use lib.ListN.{length, drop}
-use Rattle.moving.specs.Moving.{moved}
+use Rattle.moving.specs.Moving.{moved, carry, carryInto}
+use Rattle.moving.specs.declared.Moved.the-variants.{Image}
 use Rattle.moving.proofs.Carrying.{Taken, taken}
 use Rattle.carried.specs.Same.{heads}
-use Rattle.carried.proofs.Laws.{moved-well, moved-rooms, moved-files, moved-records, moved-state, moved-written, moved-content, new-records, new-biometrics, same-sizes, same-carried, image-target, image-first}
-use Rattle.promises.specs.Promises.{Carried, Carries, Same-sizes}
+use Rattle.carried.proofs.Laws.{moved-well, moved-rooms, moved-files, moved-records, moved-state, moved-written, moved-content, moved-free, new-records, new-biometrics, same-sizes, same-carried, moved-twice, twice-carried, image-target, image-first}
+use Rattle.promises.specs.Promises.{Carried, Carries, Same-sizes, Move-twice}
 
 pub carries : Carries
 carries old list t n e = subst (Carried old list t n) (sym (image-first old list t n e)) (go (taken old list (length t) n e))
@@ -26,6 +27,7 @@ carries old list t n e = subst (Carried old list t n) (sym (image-first old list
             moved-written old list g k b h,
             moved-content old list g k b h,
           );
+          free = moved-free old list g;
           none = λ k b h. new-records old list g k h b;
           deactivated = λ k b h. new-biometrics old list g k h b;
         }
@@ -34,3 +36,17 @@ pub same : Same-sizes
 same old t o z h =
     let e = same-carried old o (length t) h in
     (e, image-target old (heads old) t (length old) e ∙ ap (λ (l : List ℕ). l ++ drop (length old) t) (same-sizes old o z))
+
+pub twice : Move-twice
+twice old a b t u n m e f =
+    let i = image-first old a t n e in
+    let h : carry (moved old a) b (length u) ≡ Image m = ap (λ (l : List ℕ). carry l b (length u)) (sym i) ∙ f in
+    let g = taken old a (length t) n e in
+    let q = taken (moved old a) b (length u) m h in
+    let c = twice-carried old a b g q in (
+      c,
+      image-target old b u m c
+          ∙ ap (λ (l : List ℕ). l ++ drop m u) (sym (moved-twice old a b g q))
+          ∙ sym (image-target (moved old a) b u m h)
+          ∙ ap (λ (l : List ℕ). carryInto l b u) (sym i),
+    )

@@ -1,19 +1,28 @@
--- The theorems: each proves the promise of its name in ../specs/Promises.antt.
+-- The theorems: each proves the promise of its name in ../specs/Promises.antt, ../specs/Done.antt or ../specs/Linked.antt.
 use mathlib.Core.Path.{sym, _∙_}
-use Rattle.promises.specs.Promises.{Says-no, Opens, Holds, Number-kept, Reads-history, Leaves-none-out, Stays-taken, Answer-fits, Opening-fits, One-outcome, One-opening, Session-bytes, Opening-bytes, Result-whole, Move-says-no, Carries, Same-sizes, One-move, Move-whole}
+use Rattle.promises.specs.Promises.{Says-no, Gets-word, Opens, Holds, Number-kept, Reads-history, Leaves-none-out, Only-searches, Search-refused, Stays-taken, Answer-fits, Opening-fits, One-outcome, One-opening, Session-bytes, Opening-bytes, Result-whole, Move-says-no, Carries, Same-sizes, Move-twice, One-move, Move-whole}
+use Rattle.promises.specs.Done.{Append-done, Update-done, Activate-done, Read-done, Select-done, Fmm-done}
+use Rattle.promises.specs.Linked.{C-sees, C-says-no, C-gets-word, C-holds, C-number-kept, C-reads-history, C-leaves-none-out, C-opens, C-moves}
 use Rattle.promises.proofs.Keeping.{step-kept}
 use Rattle.promises.proofs.Opening.{opening-opened}
 use Rattle.moving.proofs.Carrying.{numbered}
 use Rattle.carried.proofs.Laws.{refused-target}
+use Rattle.promises.proofs.Saying as saying
+use Rattle.promises.proofs.Doing as doing
 use Rattle.promises.proofs.Moving as moving
 use Rattle.promises.proofs.Growing as growing
 use Rattle.promises.proofs.Reading as reading
+use Rattle.promises.proofs.Deciding as deciding
 use Rattle.promises.proofs.Searching as searching
 use Rattle.promises.proofs.Fitting as fitting
 use Rattle.promises.proofs.Linking as linking
+use Rattle.promises.proofs.Calling as calling
 
 pub says-no : Says-no
 says-no = step-kept
+
+pub gets-word : Gets-word
+gets-word = saying.gets-word
 
 pub opens : Opens
 opens = opening-opened
@@ -29,6 +38,12 @@ reads-history = reading.reads-history
 
 pub leaves-none-out : Leaves-none-out
 leaves-none-out = searching.leaves-none-out
+
+pub only-searches : Only-searches
+only-searches = deciding.only-searches
+
+pub search-refused : Search-refused
+search-refused = deciding.search-refused
 
 pub stays-taken : Stays-taken
 stays-taken = fitting.stays-taken
@@ -63,8 +78,56 @@ carries = moving.carries
 pub same-sizes : Same-sizes
 same-sizes = moving.same
 
+pub move-twice : Move-twice
+move-twice = moving.twice
+
 pub one-move : One-move
 one-move old list t m p a b e f = (e .0 ∙ sym (f .0), e .1 ∙ sym (f .1))
 
 pub move-whole : Move-whole
 move-whole = numbered
+
+pub append-done : Append-done
+append-done = doing.append-done
+
+pub update-done : Update-done
+update-done = doing.update-done
+
+pub activate-done : Activate-done
+activate-done = doing.activate-done
+
+pub read-done : Read-done
+read-done = doing.read-done
+
+pub select-done : Select-done
+select-done = doing.select-done
+
+pub fmm-done : Fmm-done
+fmm-done = doing.fmm-done
+
+pub c-sees : C-sees
+c-sees = calling.c-sees
+
+pub c-says-no : C-says-no
+c-says-no = calling.c-says-no
+
+pub c-gets-word : C-gets-word
+c-gets-word = calling.c-gets-word
+
+pub c-holds : C-holds
+c-holds = calling.c-holds
+
+pub c-number-kept : C-number-kept
+c-number-kept = calling.c-number-kept
+
+pub c-reads-history : C-reads-history
+c-reads-history = calling.c-reads-history
+
+pub c-leaves-none-out : C-leaves-none-out
+c-leaves-none-out = calling.c-leaves-none-out
+
+pub c-opens : C-opens
+c-opens = calling.c-opens
+
+pub c-moves : C-moves
+c-moves = calling.c-moves

@@ -1,4 +1,7 @@
 -- The three promises: calls as data, and what is promised of them.
+pub mod Words
 pub mod Calls
 pub mod Matches
 pub mod Promises
+pub mod Done
+pub mod Linked

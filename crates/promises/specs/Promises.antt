@@ -2,8 +2,11 @@
 use Prim.Native.Nat.{ℕ, _+_, _-_, _*_, _/_, _%_, _≤_, _<_}
 use mathlib.Core.Path.{_≡_}
 use mathlib.Core.Bool.{true, false}
+use mathlib.Core.Logic.{_⊎_}
 use mathlib.Core.List.{List, [], _∷_, _++_, List·Memᴰ}
 use lib.ListN.{length, take, drop, getD, replicate}
+use lib.Dec.{leb}
+use Rattle.base.specs.Choice.{pick, every}
 use Rattle.base.specs.Bytes.{part}
 use Rattle.records.specs.Body.{nth}
 use Rattle.bodies.specs.Biometrics.{state, written, content}
@@ -11,7 +14,7 @@ use Rattle.bodies.specs.Rules.{isBiometrics}
 use Rattle.store.specs.Image.{has, wellFormed, body, recordsOf}
 use Rattle.bodies.specs.declared.rules.Rule.{Rule}
 use Rattle.objects.specs.Encoding.{Bytes}
-use Rattle.templates.specs.declared.Search.{Search}
+use Rattle.templates.specs.Search.{Sought, searchData, SearchSized}
 use Rattle.files.specs.declared.File.the-variants.{Records}
 use Rattle.session.specs.Refusals.{numberOf, refusal}
 use Rattle.session.specs.Session.{opened, fits}
@@ -23,10 +26,11 @@ use Rattle.session.specs.declared.Reached.the-variants.{At}
 use Rattle.apdu.specs.Shape.{shapeOf}
 use Rattle.apdu.specs.declared.Apdu.the-variants.{Good}
 use Rattle.apdu.specs.declared.Frame.{Frame}
-use Rattle.decision.specs.Tests.{orCurrent}
+use Rattle.apdu.specs.declared.Header.{Header}
+use Rattle.decision.specs.Tests.{allLe, orCurrent}
 use Rattle.recordfiles.specs.ReadRecord.{recordNamed}
-use Rattle.commands.specs.Decide.{decide, dataOf}
-use Rattle.decision.specs.declared.Decision.the-variants.{Seek}
+use Rattle.recordfiles.specs.SearchRecord.{searchNamed}
+use Rattle.commands.specs.Decide.{dataOf}
 use Rattle.joined.specs.Joined.{recordsData}
 use Rattle.found.specs.Found.{foundData}
 use Rattle.effects.specs.Outcome.{Outcome}
@@ -38,6 +42,7 @@ use Rattle.moving.specs.Moving.{carry, carryInto, Numbered}
 use Rattle.moving.specs.declared.Moved.{Moved}
 use Rattle.moving.specs.declared.Moved.the-variants.{Image, Refused}
 use Rattle.carried.specs.Same.{heads, FreeZero}
+use Rattle.promises.specs.Words.{words}
 use Rattle.promises.specs.Calls.{Call, after, isPair, history}
 use Rattle.promises.specs.Matches.{Matches}
 
@@ -51,8 +56,8 @@ pub record Kept (img : List ℕ) (s : Session) (buf : List ℕ) (o : Outcome) : 
   -- "the response buffer changes only where the answer stands"
   pub rest-kept : drop (o .answer .length) (o .buffer) ≡ drop (o .answer .length) buf
   pub size-kept : length (o .buffer) ≡ length buf
-  -- "one of four refusal numbers"; number 0 means none
-  pub number : numberOf (o .answer .refusal) ≤ 4
+  -- of the refusal numbers "a command [tests] 1, 2, 4; number 0 means none"
+  pub number : List·Memᴰ (numberOf (o .answer .refusal)) (0 ∷ 1 ∷ 2 ∷ 4 ∷ [])
   -- a refusal: "length 0, status 0 and the given session .. and touches no buffer"
   pub refused : 1 ≤ numberOf (o .answer .refusal)
       → (o .answer .length ≡ 0) × (o .answer .status ≡ 0) × (o .answer .session ≡ s) × (o .image ≡ img) × (o .buffer ≡ buf)
@@ -60,10 +65,25 @@ pub record Kept (img : List ℕ) (s : Session) (buf : List ℕ) (o : Outcome) : 
 abbrev pub Says-no : Type 0
 Says-no = (img : List ℕ) (s : Session) (cmd buf : List ℕ) → Kept img s buf (step img s cmd buf)
 
+-- what a command gets that is not refused
+pub record Answered (o : Outcome) : Type 0 where
+  -- a status word, one of document 01's
+  pub known : List·Memᴰ (o .answer .status) words
+  -- "data then SW1 SW2 are written from the buffer's start, the length counts both, and the status is 256·SW1 + SW2": 2 to 2,050 bytes
+  pub word-counted : 2 ≤ o .answer .length
+  pub data-bounded : o .answer .length ≤ 2050
+  pub word-last : part (o .buffer) (o .answer .length - 2) 2 ≡ o .answer .status / 256 ∷ o .answer .status % 256 ∷ []
+
+-- "A command it cannot obey gets a status word"; cmd is any bytes
+abbrev pub Gets-word : Type 0
+Gets-word = (img : List ℕ) (s : Session) (cmd buf : List ℕ) → Bytes cmd → numberOf (step img s cmd buf .answer .refusal) ≡ 0 → Answered (step img s cmd buf)
+
 -- "Opening has no buffer and always returns length 0 and status 0": it takes 60 bytes, or is refused with number 3 and the session
 -- that 60 zero bytes open
 pub record Opened (rights : List ℕ) (a : Answer) : Type 0 where
   pub nothing : (a .length ≡ 0) × (a .status ≡ 0)
+  -- "Opening tests 3 only"
+  pub number : List·Memᴰ (numberOf (a .refusal)) (0 ∷ 3 ∷ [])
   pub taken : length rights ≡ 60 → numberOf (a .refusal) ≡ 0
   pub refused : (length rights ≡ 60 → ⊥) → (numberOf (a .refusal) ≡ 3) × (a .session ≡ opened (replicate 60 0))
 
@@ -119,42 +139,72 @@ Reads-history =
 
 -- ---- 3. "that a search leaves none out?"
 
--- "taken, well formed, permitted": no refusal, and the tests of steps 1 to 9 all hold, so that it comes to a search of the file of a
--- rule, as q asks, for a reply of up to ne bytes
-pub record Searching (img : List ℕ) (s : Session) (cmd buf : List ℕ) (r : Rule) (q : Search) (ne : ℕ) : Type 0 where
-  pub taken : refusal img s (length buf) ≡ Taken
-  pub permitted : decide img s cmd ≡ Seek r q ne
+abbrev pub searchHeader : Header
+searchHeader = record { cla = 0x00; ins = 0xA2; p1 = 0x00; p2 = 0xF8 }
+
+-- "00 A2 00 F8, Lc, Le 00 or 0000": the bytes cmd are such a command, with the frame f, and its data is the writing of the fields x
+pub record SearchCommand (cmd : List ℕ) (f : Frame) (x : Sought) : Type 0 where
+  pub shape : shapeOf cmd ≡ Good f
+  pub header : f .header ≡ searchHeader
+  pub le : allLe f ≡ true
+  pub writes : dataOf cmd ≡ searchData x
+  pub sized : SearchSized x
+
+-- "taken, well formed, permitted": no refusal, a command as above, and its file reference reaches the record file of a rule
+pub record Searching (img : List ℕ) (s : Session) (cmd buf : List ℕ) (f : Frame) (x : Sought) (r : Rule) : Type 0 where
+  pub accepted : refusal img s (length buf) ≡ Taken
+  pub command : SearchCommand cmd f x
+  pub file : reach img s ReadRecords (searchNamed (x .file)) ≡ At (Records r)
 
 -- each number is above the one before it, and so stands once
 abbrev pub Ascending : ℕ → List ℕ → Type 0
 Ascending b [] = Unit {0}
 Ascending b (x ∷ l) = (b < x) × Ascending x l
 
--- what the outcome of a search names, where the file has the records rs
-pub record Names (rs : List (List ℕ)) (q : Search) (text file : List ℕ) (ne : ℕ) (o : Outcome) : Type 0 where
+-- what the outcome of a search for the fields x names, where the file has the records rs and the reply may have ne bytes
+pub record Names (rs : List (List ℕ)) (x : Sought) (ne : ℕ) (o : Outcome) : Type 0 where
   pub numbers : List ℕ
   -- "exactly the records of that list that match, each once, ascending"
   pub ascending : Ascending 0 numbers
-  pub right : (n : ℕ) → List·Memᴰ n numbers → Matches rs q text n
-  pub whole : q .one ≡ false → (n : ℕ) → Matches rs q text n → List·Memᴰ n numbers
+  pub listed-sound : (n : ℕ) → List·Memᴰ n numbers → Matches rs x n
+  pub listed-complete : x .mode ≡ 0x00 → (n : ℕ) → Matches rs x n → List·Memᴰ n numbers
   -- "or only the first when only the first is asked for"
-  pub first : q .one ≡ true → (n : ℕ) → Matches rs q text n → (length numbers ≡ 1) × (getD numbers 0 0 ≤ n)
+  pub first : x .mode ≡ 0x30 → (n : ℕ) → Matches rs x n → (length numbers ≡ 1) × (getD numbers 0 0 ≤ n)
   -- the reply, where it fits
-  pub reply : (n : ℕ) → Matches rs q text n → length (foundData file numbers) ≤ ne
-      → (o .answer .status ≡ 0x9000) × (dataIn o ≡ foundData file numbers)
+  pub reply : (n : ℕ) → Matches rs x n → length (foundData (x .file) numbers) ≤ ne
+      → (o .answer .status ≡ 0x9000) × (dataIn o ≡ foundData (x .file) numbers)
   -- "It answers 6282 exactly when none matches", with no data
-  pub none : ((n : ℕ) → Matches rs q text n → ⊥) → (o .answer .status ≡ 0x6282) × (o .answer .length ≡ 2)
-  pub some : o .answer .status ≡ 0x6282 → (n : ℕ) → Matches rs q text n → ⊥
+  pub none-complete : ((n : ℕ) → Matches rs x n → ⊥) → (o .answer .status ≡ 0x6282) × (o .answer .length ≡ 2)
+  pub none-sound : o .answer .status ≡ 0x6282 → (n : ℕ) → Matches rs x n → ⊥
 
--- a search after any calls, of bytes; the string and the file reference are the command's
+-- a search after any calls
 abbrev pub Leaves-none-out : Type 0
 Leaves-none-out =
-    (img : List ℕ) (calls : List Call) (s : Session) (cmd buf : List ℕ) (r : Rule) (q : Search) (ne : ℕ)
+    (img : List ℕ) (calls : List Call) (s : Session) (cmd buf : List ℕ) (f : Frame) (x : Sought) (r : Rule)
     → wellFormed img ≡ true
+    → Searching (after img calls) s cmd buf f x r
+    → Names (history (r .kind) img calls) x (f .ne) (step (after img calls) s cmd buf)
+
+-- only such a command is answered as a search: one with CLA 00 and INS A2 that gets 9000 or 6282 is one
+abbrev pub Only-searches : Type 0
+Only-searches =
+    (img : List ℕ) (s : Session) (cmd buf : List ℕ) (f : Frame)
     → Bytes cmd
-    → Searching (after img calls) s cmd buf r q ne
-    → Names (history (r .kind) img calls) q (part (dataOf cmd) (q .text .at) (q .text .len)) (part (dataOf cmd) (q .file .at) (q .file .len)) ne
-    (step (after img calls) s cmd buf)
+    → shapeOf cmd ≡ Good f
+    → isPair f 0x00 0xA2 ≡ true
+    → (step img s cmd buf .answer .status ≡ 0x9000) ⊎ (step img s cmd buf .answer .status ≡ 0x6282)
+    → (x : Sought) × (r : Rule) × Searching img s cmd buf f x r
+
+-- a command with that header whose data is no such writing gets 6700 where Lc or Le is not as stated, of step 5, and else 6A80, of step 6
+abbrev pub Search-refused : Type 0
+Search-refused =
+    (img : List ℕ) (s : Session) (cmd buf : List ℕ) (f : Frame)
+    → Bytes cmd
+    → refusal img s (length buf) ≡ Taken
+    → shapeOf cmd ≡ Good f
+    → f .header ≡ searchHeader
+    → ((x : Sought) → dataOf cmd ≡ searchData x → SearchSized x → ⊥)
+    → step img s cmd buf .answer .status ≡ pick (every (leb 1 (f .lc) ∷ allLe f ∷ [])) 0x6A80 0x6700
 
 -- ---- 4. No session is shut out: of the four refusals only the one for a short buffer can meet a session that the machine gave
 
@@ -227,6 +277,8 @@ pub record Carried (old list t : List ℕ) (n : ℕ) (new : List ℕ) : Type 0 w
   -- "biometrics with state and w", and the bytes written
   pub biometrics : (k : ℕ) → isBiometrics k ≡ true → has old k ≡ true
       → (state (body new k) ≡ state (body old k)) × (written (body new k) ≡ written (body old k)) × (content (body new k) ≡ content (body old k))
+  -- "free bytes become zero"
+  pub free : FreeZero new
   -- "A kind not in the old image is written empty, biometrics Deactivated"
   pub none : (k : ℕ) → isBiometrics k ≡ false → has old k ≡ false → recordsOf new k ≡ []
   pub deactivated : (k : ℕ) → isBiometrics k ≡ true → has old k ≡ false → (state (body new k) ≡ 0) × (written (body new k) ≡ 0) × (content (body new k) ≡ [])
@@ -242,6 +294,14 @@ Same-sizes =
     → FreeZero old
     → length old ≤ length t
     → (carry old (heads old) (length t) ≡ Image (length old)) × (carryInto old (heads old) t ≡ old ++ drop (length old) t)
+
+-- a move of what was moved is one move to the last list, byte for byte
+abbrev pub Move-twice : Type 0
+Move-twice =
+    (old first last t u : List ℕ) (n m : ℕ)
+    → carry old first (length t) ≡ Image n
+    → carry (take n (carryInto old first t)) last (length u) ≡ Image m
+    → (carry old last (length u) ≡ Image m) × (carryInto old last u ≡ carryInto (take n (carryInto old first t)) last u)
 
 -- nothing is left open: two moves that meet the contract of the same call are equal
 abbrev pub One-move : Type 0

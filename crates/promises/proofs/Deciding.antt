@@ -1,0 +1,268 @@
+-- The bytes of a well-formed, permitted SEARCH RECORD are decided as a search of its fields (`search-decided-complete`), and whatever is
+-- decided as a search is such a command (`search-decided-sound`). Read before: ../specs/Promises.antt, section 3.
+use Prim.Native.Nat.{ℕ, _≤_}
+use mathlib.Core.Path.{_≡_, refl, sym, ap, subst, _∙_}
+use mathlib.Core.Bool.{Bool, true, false}
+use mathlib.Core.Logic.{_⊎_, inl, ⊎-elim}
+use mathlib.Core.List.{List, [], _∷_, _++_}
+use native.Mathlib.Omega.{arith}
+use lib.ListN.{length, length-append}
+use lib.Dec.{leb, eqb, lit≤}
+use borrow.Author.Tests.{eqb-true, le-leb}
+use Rattle.base.specs.Choice.{pick, every}
+use Rattle.base.specs.Bytes.{part}
+use Rattle.base.proofs.Cases.{by-cases, false-true, held, all-held}
+use Rattle.base.proofs.Parts.{length-part}
+use Rattle.bodies.specs.declared.rules.Rule.{Rule}
+use Rattle.writer.specs.Writing.{tlv, tagBytes, lengthBytes}
+use Rattle.objects.specs.Encoding.{Bytes}
+use Rattle.objects.proofs.Unique.{length-tlv}
+use Rattle.templates.specs.Search.{Sought, searchData, readSearch, SearchSized, Searches}
+use Rattle.templates.specs.declared.Query.{Query}
+use Rattle.templates.specs.declared.Query.the-variants.{Ask, Refused}
+use Rattle.templates.specs.declared.Search.{Search}
+use Rattle.templates.proofs.Searches.{search-sound, search-complete}
+use Rattle.session.specs.Order.{inOrder}
+use Rattle.session.specs.Reach.{reach}
+use Rattle.session.specs.Refusals.{refusal}
+use Rattle.session.specs.declared.Refusal.{Refusal}
+use Rattle.session.specs.declared.Refusal.the-variants.{Taken, ShortBuffer, BadImage, BadRights, BadSession}
+use Rattle.session.specs.declared.Session.{Session}
+use Rattle.session.specs.declared.Reached.{Reached}
+use Rattle.session.specs.declared.Task.the-variants.{ReadRecords}
+use Rattle.session.proofs.Steps.{in-order}
+use Rattle.apdu.specs.Shape.{pair, orMost, headerOf, framed, firstOf, shapes, shapeOf}
+use Rattle.apdu.specs.declared.Apdu.{Apdu}
+use Rattle.apdu.specs.declared.Apdu.the-variants.{Bad, Good}
+use Rattle.apdu.specs.declared.Frame.{Frame}
+use Rattle.apdu.specs.declared.Header.{Header}
+use Rattle.apdu.proofs.Laws.{sound}
+use Rattle.decision.specs.Tests.{allLe, onward}
+use Rattle.decision.specs.declared.Decision.{Decision}
+use Rattle.decision.specs.declared.Decision.the-variants.{Status, Enter, Choose, Bytes as ReadOf, Write, Activate, Append, Read, Seek, Report}
+use Rattle.recordfiles.specs.SearchRecord as recordfiles
+use Rattle.recordfiles.specs.SearchRecord.{searchNamed, searchAt, searchRecord}
+use Rattle.commands.specs.Decide.{byIns, byClass, byShape, decide, dataBy, dataOf}
+use Rattle.commands.proofs.Allowing.{From, FromShape, decide-from, bytes-part}
+use Rattle.effects.specs.Outcome.{Outcome, says}
+use Rattle.machine.specs.Effects.{done}
+use Rattle.machine.specs.Step.{taken, step}
+use Rattle.promises.specs.Calls.{isPair}
+use Rattle.promises.specs.Promises.{SearchCommand, Searching, Only-searches, Search-refused}
+use Rattle.promises.proofs.Answering.{step-taken}
+use Rattle.promises.proofs.Wording.{refusing-not, Worded, decide-word}
+
+-- ---- steps 1 to 3
+
+module _ (cmd : List ℕ) (f : Frame) (e : shapeOf cmd ≡ Good f) where
+  pub data-is : dataOf cmd ≡ part cmd (f .from) (f .lc)
+  data-is = unfold dataOf in ap (dataBy cmd) e
+
+  pub data-length : length (dataOf cmd) ≡ f .lc
+  data-length = ap length data-is ∙ length-part cmd (f .from) (f .lc) (sound cmd (shapeOf cmd) f refl e .inside)
+
+  -- CLA 00 and INS A2 lead to SEARCH RECORD
+  led : (img : List ℕ) (s : Session) → f .header .cla ≡ 0x00 → f .header .ins ≡ 0xA2 → decide img s cmd ≡ searchRecord img s f (dataOf cmd)
+  unfolding decide byClass byIns
+  led img s c i = ap (byShape img s cmd) e ∙ simp (c, i, data-is)
+
+-- ---- the tests of SEARCH RECORD
+
+-- step 4 and step 5
+pub record Tests (f : Frame) : Type 0 where
+  pub p1 : eqb (f .header .p1) 0 ≡ true
+  pub p2 : eqb (f .header .p2) 0xF8 ≡ true
+  pub lc : leb 1 (f .lc) ≡ true
+  pub le : allLe f ≡ true
+
+module _ (img : List ℕ) (s : Session) (f : Frame) (d : List ℕ) where
+  passed : Tests f → searchRecord img s f d ≡ recordfiles.searchData img s (f .ne) d (readSearch d)
+  unfolding searchRecord inOrder
+  passed t = simp (all-held (eqb (f .header .p1) 0 ∷ eqb (f .header .p2) 0xF8 ∷ []) (t .p1, (t .p2, tt)), all-held (leb 1 (f .lc) ∷ allLe f ∷ []) (t .lc, (t .le, tt)))
+
+  -- where a search is decided they held
+  tested : (r : Rule) (q : Search) (ne : ℕ) → searchRecord img s f d ≡ Seek r q ne → Tests f
+  unfolding searchRecord
+  tested r q ne =
+      in-order (λ (x : Decision). x ≡ Seek r q ne → Tests f) _ _ (no 0x6A86, (no 0x6700, tt))
+      (λ p e. let a = held _ (p .0) in let b = held _ (p .1 .0) in record { p1 = a .0; p2 = a .1 .0; lc = b .0; le = b .1 .0 })
+    where
+      no : (w : ℕ) → Status w ≡ Seek r q ne → Tests f
+      no w e = let z : _≡_ {A = ℕ} 0 1 = cc in absurd (omega arith)
+
+-- ---- the twins
+
+header-is : (h : Header) → h .cla ≡ 0x00 → h .ins ≡ 0xA2 → h .p1 ≡ 0x00 → h .p2 ≡ 0xF8 → h ≡ record { cla = 0x00; ins = 0xA2; p1 = 0x00; p2 = 0xF8 }
+header-is h a b c d = λ i. record { cla = a i; ins = b i; p1 = c i; p2 = d i }
+
+some-data : (x : Sought) → SearchSized x → 1 ≤ length (searchData x)
+unfolding searchData
+some-data x z =
+    let a = tlv 0x81 (x .text) in
+    let b = tlv 0xB1 a in
+    let d = tlv 0x51 (x .file) ++ tlv 0xA1 (tlv 0x80 (x .mode ∷ []) ++ tlv 0xB0 (tlv 0x02 (x .offset) ++ tlv 0x02 (x .number))) in
+    let k = z .text-size in
+    omega (arith, length-tlv 0x81 (x .text), length-tlv 0xB1 a, length-tlv 0xA3 b, length-append d (tlv 0xA3 b), length-tlv 0x7F76 (d ++ tlv 0xA3 b))
+
+pub search-decided-complete : (img : List ℕ) (s : Session) (cmd buf : List ℕ) (f : Frame) (x : Sought) (r : Rule)
+    → Searching img s cmd buf f x r
+    → (q : Search) × (decide img s cmd ≡ Seek r q (f .ne)) × Searches (dataOf cmd) q x
+search-decided-complete img s cmd buf f x r h =
+    let c = h .command in
+    let d = dataOf cmd in
+    let k = search-complete x (c .sized) in
+    let q = k .0 in
+    let w : Searches d q x = subst (λ (l : List ℕ). Searches l q x) (sym (c .writes)) (k .2) in
+    let n = data-length cmd f (c .shape) in
+    let m = ap length (c .writes) in
+    let t : Tests f = record {
+      p1 = ap (λ (y : Header). eqb (y .p1) 0) (c .header);
+      p2 = ap (λ (y : Header). eqb (y .p2) 0xF8) (c .header);
+      lc = le-leb 1 (f .lc) (omega (arith, some-data x (c .sized)));
+      le = c .le;
+    } in (
+      q,
+      led cmd f (c .shape) img s (ap (λ (y : Header). y .cla) (c .header)) (ap (λ (y : Header). y .ins) (c .header))
+          ∙ passed img s f d t
+          ∙ ap (recordfiles.searchData img s (f .ne) d) (ap readSearch (c .writes) ∙ k .1)
+          ∙ ap (λ (v : List ℕ). onward (reach img s ReadRecords (searchNamed v)) (searchAt q (f .ne))) (w .file-placed .is)
+          ∙ ap (λ (y : Reached). onward y (searchAt q (f .ne))) (h .file),
+      w,
+    )
+
+pub search-decided-sound : (img : List ℕ) (s : Session) (cmd buf : List ℕ) (r : Rule) (q : Search) (ne : ℕ)
+    → Bytes cmd
+    → refusal img s (length buf) ≡ Taken
+    → decide img s cmd ≡ Seek r q ne
+    → (f : Frame) × (x : Sought) × Searching img s cmd buf f x r × (ne ≡ f .ne) × Searches (dataOf cmd) q x
+search-decided-sound img s cmd buf r q ne b t e = go (shapeOf cmd) refl (subst (FromShape img s cmd (shapeOf cmd)) e (decide-from img s cmd))
+  where
+    go : (a : Apdu) → shapeOf cmd ≡ a → FromShape img s cmd a (Seek r q ne)
+        → (f : Frame) × (x : Sought) × Searching img s cmd buf f x r × (ne ≡ f .ne) × Searches (dataOf cmd) q x
+    go Bad z h = let y : _≡_ {A = ℕ} 0 1 = cc in absurd (omega arith)
+    go (Good f) z h =
+        let d = data-is cmd f z in
+        let k = search-sound (part cmd (f .from) (f .lc)) q (h .asks) (bytes-part cmd (f .from) (f .lc) b) in
+        let x = k .0 in
+        let w : Searches (dataOf cmd) q x = subst (λ (l : List ℕ). Searches l q x) (sym d) (k .1) in
+        let c = eqb-true (f .header .cla) 0x00 (h .pair .0) in
+        let i = eqb-true (f .header .ins) 0xA2 (h .pair .1) in
+        let v = tested img s f (dataOf cmd) r q ne (sym (led cmd f z img s c i) ∙ e) in
+        let l = header-is (f .header) c i (eqb-true (f .header .p1) 0x00 (v .p1)) (eqb-true (f .header .p2) 0xF8 (v .p2)) in (
+          f,
+          x,
+          record {
+            accepted = t;
+            command = record { shape = z; header = l; le = v .le; writes = w .written; sized = w .sized };
+            file = ap (λ (l : List ℕ). reach img s ReadRecords (searchNamed l)) (sym (k .1 .file-placed .is)) ∙ h .at;
+          },
+          h .most,
+          w,
+        )
+
+-- ---- the same of what is answered
+
+-- a call that gets 9000 or 6282 is taken
+two-taken : (img : List ℕ) (s : Session) (cmd buf : List ℕ) → (step img s cmd buf .answer .status ≡ 0x9000) ⊎ (step img s cmd buf .answer .status ≡ 0x6282) → refusal img s (length buf) ≡ Taken
+unfolding step taken
+two-taken img s cmd buf w = go (refusal img s (length buf)) w
+  where
+    no : (_≡_ {A = ℕ} 0 0x9000) ⊎ (_≡_ {A = ℕ} 0 0x6282) → ⊥
+    no w = ⊎-elim (λ e. omega (arith, e)) (λ e. omega (arith, e)) w
+
+    go : (x : Refusal) → (taken x img s cmd buf .answer .status ≡ 0x9000) ⊎ (taken x img s cmd buf .answer .status ≡ 0x6282) → x ≡ Taken
+    go Taken w = refl
+    go ShortBuffer w = absurd (no w)
+    go BadImage w = absurd (no w)
+    go BadRights w = absurd (no w)
+    go BadSession w = absurd (no w)
+
+pub only-searches : Only-searches
+only-searches img s cmd buf f b e p w =
+    let t = two-taken img s cmd buf w in
+    let u = step-taken img s cmd buf t in
+    go t (decide img s cmd) refl
+    (subst (λ (o : Outcome). (o .answer .status ≡ 0x9000) ⊎ (o .answer .status ≡ 0x6282)) u w)
+    (subst (λ (a : Apdu). FromShape img s cmd a (decide img s cmd)) e (decide-from img s cmd))
+    (decide-word img s cmd)
+  where
+    ins : f .header .ins ≡ 0xA2
+    ins = unfold isPair in eqb-true _ _ (held (eqb (f .header .cla) 0x00 ∷ eqb (f .header .ins) 0xA2 ∷ []) p .1 .0)
+
+    -- another INS
+    other : {A : Type 0} (i : ℕ) → eqb (f .header .ins) i ≡ true → eqb 0xA2 i ≡ false → A
+    other i h n = false-true (sym n ∙ ap (λ (k : ℕ). eqb k i) (sym ins) ∙ h)
+
+    same-frame : (g : Frame) → shapeOf cmd ≡ Good g → g ≡ f
+    same-frame g z = let y : Good g ≡ Good f = sym z ∙ e in cc
+
+    go : refusal img s (length buf) ≡ Taken → (x : Decision) → decide img s cmd ≡ x
+        → (done x img s (dataOf cmd) buf .answer .status ≡ 0x9000) ⊎ (done x img s (dataOf cmd) buf .answer .status ≡ 0x6282)
+        → From img s f (part cmd (f .from) (f .lc)) x → Worded x
+        → (x : Sought) × (r : Rule) × Searching img s cmd buf f x r
+    go t (Status v) z w h k =
+        unfold done says in absurd (⊎-elim (refusing-not v 0x9000 k refl) (refusing-not v 0x6282 k refl) w)
+    go t (Enter a) z w h k = other 0xA4 (h .0 .1) refl
+    go t (Choose g) z w h k = other 0xA4 (h .0 .1) refl
+    go t (ReadOf g a n) z w h k = other 0xB0 (h .0 .1) refl
+    go t (Write g v) z w h k = other 0xD7 (h .0 .1) refl
+    go t (Activate g) z w h k = other 0x44 (h .0 .1) refl
+    go t (Append r) z w h k = other 0xE2 (h .0 .1) refl
+    go t (Read r a n) z w h k = other 0xB2 (h .pair .1) refl
+    go t (Seek r q ne) z w h k =
+        let y = search-decided-sound img s cmd buf r q ne b t z in
+        (y .1, r, subst (λ (g : Frame). Searching img s cmd buf g (y .1) r) (same-frame (y .0) (y .2 .command .shape)) (y .2))
+    go t (Report g p2) z w h k = other 0x5E (h .0 .1) refl
+
+pub search-refused : Search-refused
+search-refused img s cmd buf f b t e h n =
+    ap (λ (o : Outcome). o .answer .status) (step-taken img s cmd buf t ∙ ap (λ (x : Decision). done x img s (dataOf cmd) buf) decided)
+    ∙ said
+  where
+    five : Bool
+    five = every (leb 1 (f .lc) ∷ allLe f ∷ [])
+
+    no-query : readSearch (dataOf cmd) ≡ Refused
+    no-query = go (readSearch (dataOf cmd)) refl
+      where
+        go : (q : Query) → readSearch (dataOf cmd) ≡ q → readSearch (dataOf cmd) ≡ Refused
+        go Refused z = z
+        go (Ask q) z =
+            let k = search-sound (dataOf cmd) q z (subst Bytes (sym (data-is cmd f e)) (bytes-part cmd (f .from) (f .lc) b)) in
+            absurd (n (k .0) (k .1 .written) (k .1 .sized))
+
+    p1 : eqb (f .header .p1) 0 ≡ true
+    p1 = ap (λ (y : Header). eqb (y .p1) 0) h
+
+    p2 : eqb (f .header .p2) 0xF8 ≡ true
+    p2 = ap (λ (y : Header). eqb (y .p2) 0xF8) h
+
+    tests : searchRecord img s f (dataOf cmd) ≡ pick five (recordfiles.searchData img s (f .ne) (dataOf cmd) (readSearch (dataOf cmd))) (Status 0x6700)
+    tests = unfold searchRecord inOrder in simp (all-held (eqb (f .header .p1) 0 ∷ eqb (f .header .p2) 0xF8 ∷ []) (p1, (p2, tt)))
+
+    decided : decide img s cmd ≡ pick five (Status 0x6A80) (Status 0x6700)
+    decided =
+        led cmd f e img s (ap (λ (y : Header). y .cla) h) (ap (λ (y : Header). y .ins) h)
+        ∙ tests
+        ∙ ap (λ (q : Query). pick five (recordfiles.searchData img s (f .ne) (dataOf cmd) q) (Status 0x6700)) no-query
+
+    said : done (pick five (Status 0x6A80) (Status 0x6700)) img s (dataOf cmd) buf .answer .status ≡ pick five 0x6A80 0x6700
+    said = unfold done says in by-cases five (λ y. simp y) (λ y. simp y)
+
+-- ---- document 01, m6: such a command
+
+abbrev m6-fields : Sought
+m6-fields = record { file = 0x01 ∷ []; mode = 0x00; offset = 0x03 ∷ []; number = 0x03 ∷ []; text = 0x46 ∷ 0x52 ∷ 0x41 ∷ [] }
+
+abbrev m6-frame : Frame
+m6-frame = record { header = record { cla = 0x00; ins = 0xA2; p1 = 0x00; p2 = 0xF8 }; from = 5; lc = 28; le = 1; ne = 256 }
+
+pub m6 : SearchCommand (0x00 ∷ 0xA2 ∷ 0x00 ∷ 0xF8 ∷ 0x1C ∷ 0x7F ∷ 0x76 ∷ 0x19 ∷ 0x51 ∷ 0x01 ∷ 0x01 ∷ 0xA1 ∷ 0x0B ∷ 0x80 ∷ 0x01 ∷ 0x00 ∷ 0xB0 ∷ 0x06 ∷ 0x02 ∷ 0x01 ∷ 0x03 ∷ 0x02 ∷ 0x01 ∷ 0x03 ∷ 0xA3 ∷ 0x07 ∷ 0xB1 ∷ 0x05 ∷ 0x81 ∷ 0x03 ∷ 0x46 ∷ 0x52 ∷ 0x41 ∷ 0x00 ∷ []) m6-frame m6-fields
+unfolding shapeOf shapes firstOf framed headerOf orMost pair allLe every dataOf searchData tlv tagBytes lengthBytes
+m6 = record {
+  shape = refl;
+  header = refl;
+  le = refl;
+  writes = refl;
+  sized = record { file-size = (omega arith, omega arith); mode-is = inl refl; offset-size = (omega arith, omega arith); number-size = (omega arith, omega arith); text-size = omega arith; whole = lit≤ tt };
+}

@@ -1,0 +1,179 @@
+-- Calls from C: what a program sees that links the functions of include/malquindo.h, and the promises of that. A session is bytes, any
+-- bytes at each call, and a result is one number. Each promise is a type; the theorem of the same name is in ../proofs/Promises.antt.
+-- Read before: Calls.antt, Promises.antt.
+use Prim.Native.Nat.{ℕ, _*_, _/_, _%_, _≤_, _<_}
+use mathlib.Core.Path.{_≡_}
+use mathlib.Core.Bool.{true, false}
+use mathlib.Core.List.{List, [], _∷_, _++_, List·Memᴰ}
+use lib.ListN.{length, take, drop}
+use lib.Dec.{eqb}
+use Rattle.base.specs.Choice.{pick}
+use Rattle.records.specs.Body.{nth}
+use Rattle.bodies.specs.Rules.{isBiometrics}
+use Rattle.bodies.specs.declared.rules.Rule.{Rule}
+use Rattle.store.specs.Image.{has, wellFormed, recordsOf}
+use Rattle.objects.specs.Encoding.{Bytes}
+use Rattle.templates.specs.Search.{Sought}
+use Rattle.session.specs.Session.{opened}
+use Rattle.session.specs.declared.Refusal.{Refusal}
+use Rattle.session.specs.declared.Refusal.the-variants.{Taken, ShortBuffer, BadImage, BadRights, BadSession}
+use Rattle.apdu.specs.Shape.{shapeOf}
+use Rattle.apdu.specs.declared.Apdu.the-variants.{Good}
+use Rattle.apdu.specs.declared.Frame.{Frame}
+use Rattle.effects.specs.Outcome.{Outcome, outcome}
+use Rattle.machine.specs.Step.{step}
+use Rattle.layout.specs.Layout.{sessionOf}
+use Rattle.malquindo.specs.Face.{openResult, openSession, Called, called, moveResult}
+use Rattle.moving.specs.Moving.{carry, carryInto}
+use Rattle.promises.specs.Calls.{isPair, addedBy}
+use Rattle.promises.specs.Promises.{Kept, Answered, Reads, Searching, Names, Carried}
+
+-- ---- results: `malquindo_refusal`, `malquindo_length`, `malquindo_status`, `malquindo_moved`
+
+unfoldable pub refusalIn : ℕ → ℕ
+refusalIn r = r / 4294967296
+
+unfoldable pub lengthIn : ℕ → ℕ
+lengthIn r = r / 65536 % 65536
+
+unfoldable pub statusIn : ℕ → ℕ
+statusIn r = r % 65536
+
+unfoldable pub movedIn : ℕ → ℕ
+movedIn r = r % 4294967296
+
+-- the refusal of a number
+unfoldable pub refusalBy : ℕ → Refusal
+refusalBy n = pick (eqb n 0) Taken (pick (eqb n 1) ShortBuffer (pick (eqb n 2) BadImage (pick (eqb n 3) BadRights BadSession)))
+
+-- all that a caller of `malquindo_command` has afterwards: the three numbers of the result, and the bytes that it lent
+unfoldable pub seen : Called → Outcome
+seen c =
+    outcome
+    (record {
+      refusal = refusalBy (refusalIn (c .result));
+      length = lengthIn (c .result);
+      status = statusIn (c .result);
+      session = sessionOf (c .session);
+    })
+    (c .image)
+    (c .response)
+
+-- ---- calls
+
+-- an opening with any rights and any session buffer; a command with any session bytes, any command and any response buffer; a move by a
+-- list of rooms into any target
+pub data CCall : Type 0 where
+  OpenC : List ℕ → List ℕ → CCall
+  CommandC : List ℕ → List ℕ → List ℕ → CCall
+  MoveC : List ℕ → List ℕ → CCall
+
+-- after a move with the result r: the card goes on as the new image, the first bytes of the target t, unless the move was refused
+unfoldable pub goesOnC : ℕ → List ℕ → List ℕ → List ℕ
+goesOnC r t img = pick (eqb (refusalIn r) 0) (take (movedIn r) t) img
+
+-- the image after a call
+unfoldable pub nextC : List ℕ → CCall → List ℕ
+nextC img (OpenC rights ses) = img
+nextC img (CommandC ses cmd buf) = called img ses cmd buf .image
+nextC img (MoveC list t) = goesOnC (moveResult (carry img list (length t))) (carryInto img list t) img
+
+-- and after calls, one after the other
+unfoldable pub afterC : List ℕ → List CCall → List ℕ
+afterC img [] = img
+afterC img (c ∷ cs) = afterC (nextC img c) cs
+
+-- "the data of each APPEND RECORD to that file answered 9000", as the result tells it
+unfoldable pub addedC : ℕ → List ℕ → CCall → List (List ℕ)
+addedC k img (OpenC rights ses) = []
+addedC k img (CommandC ses cmd buf) = addedBy k img (sessionOf ses) cmd (statusIn (called img ses cmd buf .result)) (shapeOf cmd)
+addedC k img (MoveC list t) = []
+
+unfoldable pub additionsC : ℕ → List ℕ → List CCall → List (List ℕ)
+additionsC k img [] = []
+additionsC k img (c ∷ cs) = addedC k img c ++ additionsC k (nextC img c) cs
+
+unfoldable pub historyC : ℕ → List ℕ → List CCall → List (List ℕ)
+historyC k img cs = recordsOf img k ++ additionsC k img cs
+
+-- ---- nothing is lost between the machine and its caller: a command is `step`, by the session that the bytes are
+
+abbrev pub C-sees : Type 0
+C-sees = (img ses cmd buf : List ℕ) → Bytes cmd → seen (called img ses cmd buf) ≡ step img (sessionOf ses) cmd buf
+
+-- ---- 1. "When your chip says no, what has it changed?"
+
+-- of the session that is lent, the bytes themselves stay
+pub record KeptC (img ses buf : List ℕ) (c : Called) : Type 0 where
+  pub kept : Kept img (sessionOf ses) buf (seen c)
+  pub session-kept : (statusIn (c .result) ≡ 0x9000 → ⊥) → c .session ≡ ses
+  -- "Bytes past these stay as they are"
+  pub session-rest-kept : drop 25 (c .session) ≡ drop 25 ses
+  pub session-size-kept : length (c .session) ≡ length ses
+
+abbrev pub C-says-no : Type 0
+C-says-no = (img ses cmd buf : List ℕ) → Bytes cmd → KeptC img ses buf (called img ses cmd buf)
+
+abbrev pub C-gets-word : Type 0
+C-gets-word = (img ses cmd buf : List ℕ) → Bytes cmd → refusalIn (called img ses cmd buf .result) ≡ 0 → Answered (seen (called img ses cmd buf))
+
+-- ---- 2. "Can you show that record 7 is still the record 7 that was written, after any commands at all?"
+
+pub record HeldC (img : List ℕ) (calls : List CCall) : Type 0 where
+  pub well : wellFormed (afterC img calls) ≡ true
+  pub files : (k : ℕ) → has img k ≡ true → has (afterC img calls) k ≡ true
+  pub records : (k : ℕ) → isBiometrics k ≡ false → recordsOf (afterC img calls) k ≡ historyC k img calls
+
+abbrev pub C-holds : Type 0
+C-holds = (img : List ℕ) (calls : List CCall) → wellFormed img ≡ true → HeldC img calls
+
+abbrev pub C-number-kept : Type 0
+C-number-kept =
+    (img : List ℕ) (calls later : List CCall) (k n : ℕ)
+    → wellFormed img ≡ true
+    → isBiometrics k ≡ false
+    → n ≤ length (recordsOf (afterC img calls) k)
+    → nth (recordsOf (afterC img (calls ++ later)) k) n ≡ nth (recordsOf (afterC img calls) k) n
+
+abbrev pub C-reads-history : Type 0
+C-reads-history =
+    (img : List ℕ) (calls : List CCall) (ses cmd buf : List ℕ) (f : Frame)
+    → wellFormed img ≡ true
+    → Bytes cmd
+    → shapeOf cmd ≡ Good f
+    → isPair f 0x00 0xB2 ≡ true
+    → statusIn (called (afterC img calls) ses cmd buf .result) ≡ 0x9000
+    → Reads (afterC img calls) (sessionOf ses) f (λ k. historyC k img calls) (seen (called (afterC img calls) ses cmd buf))
+
+-- ---- 3. "that a search leaves none out?"
+
+abbrev pub C-leaves-none-out : Type 0
+C-leaves-none-out =
+    (img : List ℕ) (calls : List CCall) (ses cmd buf : List ℕ) (f : Frame) (x : Sought) (r : Rule)
+    → wellFormed img ≡ true
+    → Bytes cmd
+    → Searching (afterC img calls) (sessionOf ses) cmd buf f x r
+    → Names (historyC (r .kind) img calls) x (f .ne) (seen (called (afterC img calls) ses cmd buf))
+
+-- ---- an opening: "a session buffer under 25 bytes gets 4 after 3 is tested", and nothing is written there
+
+pub record OpenedC (rights ses : List ℕ) : Type 0 where
+  pub taken : length rights ≡ 60 → 25 ≤ length ses → (openResult rights ses ≡ 0) × (sessionOf (openSession rights ses) ≡ opened rights)
+  pub refused : (length rights ≡ 60 → ⊥) → openResult rights ses ≡ 3 * 4294967296
+  pub short : length rights ≡ 60 → length ses < 25 → openResult rights ses ≡ 4 * 4294967296
+  pub unwritten : length ses < 25 → openSession rights ses ≡ ses
+
+abbrev pub C-opens : Type 0
+C-opens = (rights ses : List ℕ) → OpenedC rights ses
+
+-- ---- a move: "refusal · 2^32 + the new image's length (0 on a refusal)"
+
+pub record MovedC (old list t : List ℕ) (r : ℕ) : Type 0 where
+  -- the refusals in their order; number 0 means none
+  pub number : List·Memᴰ (refusalIn r) (0 ∷ 2 ∷ 10 ∷ 11 ∷ 12 ∷ 13 ∷ [])
+  -- "with the target untouched"
+  pub refused : 1 ≤ refusalIn r → (movedIn r ≡ 0) × (carryInto old list t ≡ t)
+  pub carried : refusalIn r ≡ 0 → Carried old list t (movedIn r) (take (movedIn r) (carryInto old list t))
+
+abbrev pub C-moves : Type 0
+C-moves = (old list t : List ℕ) → MovedC old list t (moveResult (carry old list (length t)))
