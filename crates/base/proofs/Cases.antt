@@ -1,4 +1,6 @@
--- Laws of choices and of tests that must all hold.
+-- Choices by a test, and tests that must all hold. Read before: specs/Choice.antt. Exports `by-cases` and `ifElse-ind` (a test either way,
+-- with its outcome as an equation), `flag-accepted` and `flag-refused` (a callee's answer that the code has tested), `allOf-facts` and
+-- `allOf-accepted` (a list of tests taken apart, and put together).
 use mathlib.Core.Path.{_≡_, refl, sym, _∙_}
 use mathlib.Core.Bool.{Bool, true, false, not, _&&_, false≢true}
 use mathlib.Core.List.{List, [], _∷_}
@@ -6,7 +8,7 @@ use Prim.Native.Nat.{ℕ, _≤_}
 use native.Mathlib.Omega.{arith}
 use lib.Dec.{leb}
 use borrow.Author.Tests.{not-true, not-false, le-leb, leb-true, leb-false}
-use Rattle.base.specs.Choice.{pick, every}
+use Rattle.base.specs.Choice.{ifElse, allOf}
 
 pub false-true : {A : Type 0} → false ≡ true → A
 false-true e = absurd (false≢true e)
@@ -16,16 +18,16 @@ pub by-cases : {P : Type 0} (t : Bool) → (t ≡ true → P) → (t ≡ false �
 by-cases true f g = f refl
 by-cases false f g = g refl
 
-pub pick-ind : {A : Type 0} (P : A → Type 0) (t : Bool) {a b : A} → (t ≡ true → P a) → (t ≡ false → P b) → P (pick t a b)
-pick-ind P true f g = f refl
-pick-ind P false f g = g refl
+pub ifElse-ind : {A : Type 0} (P : A → Type 0) (t : Bool) {a b : A} → (t ≡ true → P a) → (t ≡ false → P b) → P (ifElse t a b)
+ifElse-ind P true f g = f refl
+ifElse-ind P false f g = g refl
 
 -- what a callee says of its answer, where the code has tested `!answer`
-pub flag-no : {r t : Bool} → r ≡ t → not r ≡ true → t ≡ false
-flag-no {r} e h = sym e ∙ not-true r h
+pub flag-refused : {r t : Bool} → r ≡ t → not r ≡ true → t ≡ false
+flag-refused {r} e h = sym e ∙ not-true r h
 
-pub flag-yes : {r t : Bool} → r ≡ t → not r ≡ false → t ≡ true
-flag-yes {r} e h = sym e ∙ not-false r h
+pub flag-accepted : {r t : Bool} → r ≡ t → not r ≡ false → t ≡ true
+flag-accepted {r} e h = sym e ∙ not-false r h
 
 -- two tests of an order that say the same
 pub leb-same : (a b c d : ℕ) → (a ≤ b → c ≤ d) → (c ≤ d → a ≤ b) → leb a b ≡ leb c d
@@ -45,16 +47,16 @@ and-right true b e = e
 and-right false b e = false-true e
 
 -- each holds
-abbrev pub Held : List Bool → Type 0
-Held [] = Unit {0}
-Held (t ∷ ts) = (t ≡ true) × Held ts
+abbrev pub AllTrue : List Bool → Type 0
+AllTrue [] = Unit {0}
+AllTrue (t ∷ ts) = (t ≡ true) × AllTrue ts
 
-pub held : (ts : List Bool) → every ts ≡ true → Held ts
-unfolding every
-held [] e = tt
-held (t ∷ ts) e = (and-left t (every ts) e, held ts (and-right t (every ts) e))
+pub allOf-facts : (ts : List Bool) → allOf ts ≡ true → AllTrue ts
+unfolding allOf
+allOf-facts [] e = tt
+allOf-facts (t ∷ ts) e = (and-left t (allOf ts) e, allOf-facts ts (and-right t (allOf ts) e))
 
-pub all-held : (ts : List Bool) → Held ts → every ts ≡ true
-unfolding every
-all-held [] h = refl
-all-held (t ∷ ts) h = rw (h .0) (all-held ts (h .1))
+pub allOf-accepted : (ts : List Bool) → AllTrue ts → allOf ts ≡ true
+unfolding allOf
+allOf-accepted [] h = refl
+allOf-accepted (t ∷ ts) h = rw (h .0) (allOf-accepted ts (h .1))

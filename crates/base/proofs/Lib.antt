@@ -1,4 +1,4 @@
--- Laws that the proofs of several crates cite.
+-- Laws that the proofs of the other crates cite: of choices, of stored runs, of parts.
 pub mod Cases
 pub mod Runs
 pub mod Parts

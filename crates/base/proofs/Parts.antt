@@ -1,4 +1,5 @@
--- Laws of parts of a list, and of lists that agree in a stretch.
+-- Parts of a list, lists that agree in a stretch, and a part replaced by another. Read before: specs/Bytes.antt. Exports `rest` and `part-…`
+-- (a part as the code's slices have it), `Agree` with `part-agree` and `part-within`, and the laws of `splice`.
 use Prim.Native.Nat.{ℕ, zero, suc, _+_, _-_, _≤_, _<_}
 use mathlib.Core.Path.{_≡_, refl, sym, ap, ap₂, _∙_}
 use mathlib.Core.List.{List, [], _∷_, _++_}
@@ -65,10 +66,10 @@ part-within xs ys a e p n i j g h k = agree-part xs ys a e p n (length-part ys p
 -- ---- a part replaced by another of its length
 
 -- such a part that was lent and came back
-pub put-splice : (xs : List ℕ) (s n : ℕ) (last body : List ℕ) → last ≡ body → length body ≡ n
+pub splice-lent : (xs : List ℕ) (s n : ℕ) (last body : List ℕ) → last ≡ body → length body ≡ n
     → take s xs ++ (last ++ drop (s + n - s) (drop s xs)) ≡ splice xs s body
 unfolding splice
-put-splice xs s n last body e l =
+splice-lent xs s n last body e l =
     let q : s + n - s ≡ length body = omega arith in
     ap₂ (λ (b : List ℕ) (k : ℕ). take s xs ++ (b ++ drop k (drop s xs))) e q
     ∙ ap (λ (r : List ℕ). take s xs ++ (body ++ r)) (drop-drop (length body) s xs)

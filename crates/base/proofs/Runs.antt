@@ -1,4 +1,5 @@
--- Laws of a run of stores.
+-- A run of bytes stored in a list. Read before: specs/Bytes.antt. Exports the laws of `sets` that the library lacks, `sets-turn` and
+-- `sets-done` (one turn of a loop that copies, and its end), `putFits-accepted`, `put-accepted` and their likes, and `put-behind`.
 use Prim.Native.Nat.{ℕ, suc, _+_, _≤_, _<_}
 use mathlib.Core.Path.{_≡_, refl, sym, ap, _∙_}
 use mathlib.Core.Bool.{true, false}
@@ -9,8 +10,8 @@ use native.Mathlib.Nat.{add-zero, add-suc}
 use lib.ListN.{length, getD, take, drop, set, length-append}
 use lib.Seq.{sets, getD-set-other, drop-set-lt, drop-set-add, take-suc, length-sets, sets-eq, drop-at, take-at, length-take-le, take-all}
 use borrow.Author.Tests.{le-leb, lt-leb}
-use Rattle.base.specs.Bytes.{part, fits, put}
-use Rattle.base.proofs.Cases.{pick-ind}
+use Rattle.base.specs.Bytes.{part, putFits, put}
+use Rattle.base.proofs.Cases.{ifElse-ind}
 
 pub sets-snoc : (l : List ℕ) (i : ℕ) (vs : List ℕ) (a : ℕ) → sets l i (vs ++ (a ∷ [])) ≡ set (sets l i vs) (i + length vs) a
 sets-snoc l i [] a = simp add-zero
@@ -65,32 +66,32 @@ sets-append l i (v ∷ vs) ws = sets-append (set l i v) (suc i) vs ws ∙ ap (λ
 
 -- a run that fits is stored, and one that does not changes nothing
 module _ (xs : List ℕ) (at : ℕ) (b : List ℕ) where
-  pub fits-yes : at + length b ≤ length xs → fits xs at b ≡ true
-  unfolding fits
-  fits-yes h = le-leb _ _ h
+  pub putFits-accepted : at + length b ≤ length xs → putFits xs at b ≡ true
+  unfolding putFits
+  putFits-accepted h = le-leb _ _ h
 
-  pub fits-no : length xs < at + length b → fits xs at b ≡ false
-  unfolding fits
-  fits-no h = lt-leb _ _ h
+  pub putFits-refused : length xs < at + length b → putFits xs at b ≡ false
+  unfolding putFits
+  putFits-refused h = lt-leb _ _ h
 
-  pub put-yes : at + length b ≤ length xs → put xs at b ≡ sets xs at b
+  pub put-accepted : at + length b ≤ length xs → put xs at b ≡ sets xs at b
   unfolding put
-  put-yes h = simp (fits-yes h)
+  put-accepted h = simp (putFits-accepted h)
 
-  pub put-no : length xs < at + length b → put xs at b ≡ xs
+  pub put-refused : length xs < at + length b → put xs at b ≡ xs
   unfolding put
-  put-no h = simp (fits-no h)
+  put-refused h = simp (putFits-refused h)
 
   pub length-put : length (put xs at b) ≡ length xs
   unfolding put
-  length-put = pick-ind (λ (l : List ℕ). length l ≡ length xs) (fits xs at b) (λ e. length-sets xs at b) (λ e. refl)
+  length-put = ifElse-ind (λ (l : List ℕ). length l ≡ length xs) (putFits xs at b) (λ e. length-sets xs at b) (λ e. refl)
 
 -- a run behind a run is the run of both
 pub put-behind : (out : List ℕ) (at : ℕ) (a b : List ℕ) → at + length (a ++ b) ≤ length out → put (put out at a) (at + length a) b ≡ put out at (a ++ b)
 put-behind out at a b h =
     let l = length-append a b in
-    let p : put out at a ≡ sets out at a = put-yes out at a (omega arith) in
+    let p : put out at a ≡ sets out at a = put-accepted out at a (omega arith) in
     ap (λ (x : List ℕ). put x (at + length a) b) p
-    ∙ put-yes (sets out at a) (at + length a) b (omega (arith, length-sets out at a))
+    ∙ put-accepted (sets out at a) (at + length a) b (omega (arith, length-sets out at a))
     ∙ sym (sets-append out at a b)
-    ∙ sym (put-yes out at (a ++ b) h)
+    ∙ sym (put-accepted out at (a ++ b) h)

@@ -5,7 +5,7 @@ ghost use mathlib.Core.Path.{_≡_};
 ghost use Prim.Native.Nat.{_+_, _≤_, _<_};
 ghost use lib.ListN.{length, getD};
 ghost use lib.Seq.{sets};
-ghost use Rattle.base.specs.Bytes.{part as partOf, fits as fitsAt, put as putAt};
+ghost use Rattle.base.specs.Bytes.{part as partOf, putFits as fitsAt, put as putAt};
 
 // The byte at i, and 0 past the end.
 pub fn byte(s: &[u8], i: usize) -> usize

@@ -3,7 +3,7 @@ ghost use mathlib.Core.Path.{_≡_};
 ghost use Prim.Native.Nat.{_-_, min};
 
 // The lesser of two.
-pub fn lesser(a: usize, b: usize) -> usize
+pub fn min(a: usize, b: usize) -> usize
     ensures { λ r. ⌜ r ≡ min a b ⌝ }
 {
     if a < b {
@@ -13,7 +13,7 @@ pub fn lesser(a: usize, b: usize) -> usize
 }
 
 // a without b, and 0 where b is more.
-pub fn without(a: usize, b: usize) -> usize
+pub fn saturating_sub(a: usize, b: usize) -> usize
     ensures { λ r. ⌜ r ≡ a - b ⌝ }
 {
     if a < b {

@@ -2,5 +2,5 @@
 pub mod Saying
 pub mod Reaching
 pub mod Seeking
-pub mod Carrying
+pub mod Accepting
 pub mod Worked

@@ -1,4 +1,5 @@
--- A status word behind its data.
+-- A status word behind its data. Read machine_answer's specs/Outcome.antt before. Exports `said`, `stored`, `stored-records`, `same-report`,
+-- `same-answer`, `same-file`.
 use Prim.Native.Nat.{ℕ, _≤_}
 use mathlib.Core.Path.{_≡_, sym, ap, ap₂, _∙_}
 use mathlib.Core.Bool.{false}
@@ -9,19 +10,19 @@ use lib.ListN.{length, length-append}
 use lib.Seq.{sets}
 use lib.Dec.{ltb}
 use borrow.Author.Tests.{le-ltb}
-use Rattle.base.specs.Choice.{pick}
+use Rattle.base.specs.Choice.{ifElse}
 use Rattle.base.specs.Bytes.{put}
-use Rattle.base.proofs.Runs.{fits-yes, put-yes, put-behind}
-use Rattle.writer.specs.Writer.{after}
-use Rattle.writer.proofs.Writings.{after-yes}
-use Rattle.joined.specs.Joined.{recordsData}
-use Rattle.report.specs.Report.{reportData}
-use Rattle.joined.proofs.Joining.{records-bound}
-use Rattle.session.specs.Session.{placed}
-use Rattle.session.specs.declared.Place.the-variants.{File as OnFile}
-use Rattle.session.specs.declared.Session.{Session}
-use Rattle.effects.specs.Outcome.{outcome, word, answered, says}
-use Rattle.effects.specs.declared.Answer.{Answer}
+use Rattle.base.proofs.Runs.{putFits-accepted, put-accepted, put-behind}
+use Rattle.objects_writer.specs.Writer.{putEnd}
+use Rattle.objects_writer.proofs.Writings.{putEnd-accepted}
+use Rattle.machine_reply_record.specs.Joined.{recordsData}
+use Rattle.machine_reply_fmm.specs.Report.{reportData}
+use Rattle.machine_reply_record.proofs.Joining.{records-bound}
+use Rattle.machine_session.specs.Session.{placed}
+use Rattle.machine_session.specs.declared.Place.the-variants.{OnFile}
+use Rattle.machine_session.specs.declared.Session.{Session}
+use Rattle.machine_answer.specs.Outcome.{outcome, word, answered, says}
+use Rattle.machine_answer.specs.declared.Answer.{Answer}
 
 -- the data stands at the start of the buffer, the word comes behind it
 pub said : (w : ℕ) (dat : List ℕ) (s : Session) (img buf : List ℕ) {t : Session} {n : ℕ} {mid new : List ℕ} {a : Answer} → length dat ≤ 2048 → 2050 ≤ length buf
@@ -35,23 +36,23 @@ said w dat s img buf {t} {n} {mid} {new} {a} h r o p e =
     ∙ put-behind buf 0 dat (word w) (simp length-append (omega arith)))
 
 -- a writer that answers the place behind what it stored has room for it
-pub stored : (buf dat : List ℕ) {n : ℕ} {mid : List ℕ} → length dat ≤ 2048 → 2050 ≤ length buf → (n ≡ after buf 0 dat) × (mid ≡ put buf 0 dat)
+pub stored : (buf dat : List ℕ) {n : ℕ} {mid : List ℕ} → length dat ≤ 2048 → 2050 ≤ length buf → (n ≡ putEnd buf 0 dat) × (mid ≡ put buf 0 dat)
     → (n ≡ length dat) × (mid ≡ put buf 0 dat)
 stored buf dat h r e = (
-  e .0 ∙ sym (after-yes buf 0 dat (fits-yes buf 0 dat (omega arith))) ∙ zero-add (length dat),
+  e .0 ∙ sym (putEnd-accepted buf 0 dat (putFits-accepted buf 0 dat (omega arith))) ∙ zero-add (length dat),
   e .1,
 )
 
 -- so does one that stores records
 pub stored-records : (buf : List ℕ) (rs rs′ : List (List ℕ)) (a b : ℕ) {n : ℕ} {mid : List ℕ} → rs ≡ rs′ → 2050 ≤ length buf
-    → (n ≡ pick (ltb (length buf) 2048) 0 (length (recordsData rs a b))) × (mid ≡ pick (ltb (length buf) 2048) buf (sets buf 0 (recordsData rs a b)))
+    → (n ≡ ifElse (ltb (length buf) 2048) 0 (length (recordsData rs a b))) × (mid ≡ ifElse (ltb (length buf) 2048) buf (sets buf 0 (recordsData rs a b)))
     → (n ≡ length (recordsData rs′ a b)) × (mid ≡ put buf 0 (recordsData rs′ a b))
 stored-records buf rs rs′ a b s r e =
     let t : ltb (length buf) 2048 ≡ false = le-ltb (length buf) 2048 (omega arith) in
     let d : recordsData rs a b ≡ recordsData rs′ a b = ap (λ (x : List (List ℕ)). recordsData x a b) s in
     let n = rw t at e .0 in
     let bytes = rw t at e .1 in
-    (n ∙ ap length d, bytes ∙ ap (sets buf 0) d ∙ sym (put-yes buf 0 (recordsData rs′ a b) (omega (arith, records-bound rs′ a b))))
+    (n ∙ ap length d, bytes ∙ ap (sets buf 0) d ∙ sym (put-accepted buf 0 (recordsData rs′ a b) (omega (arith, records-bound rs′ a b))))
 
 -- the same numbers, the same report
 pub same-report : (p2 : ℕ) {t r e t′ r′ e′ : ℕ} → t ≡ t′ → r ≡ r′ → e ≡ e′ → reportData p2 t r e ≡ reportData p2 t′ r′ e′

@@ -1,75 +1,61 @@
--- A search, from what the code finds to what document 01 asks.
-use Prim.Native.Nat.{ℕ, _≤_, _<_}
-use mathlib.Core.Path.{_≡_, ap₂, _∙_}
+-- A search, from what the code finds to the outcome. Read machine_record's specs/SearchRecord.antt before. Exports `hits-listed`,
+-- `reply-short`, `searched-refused`, `searched-found`.
+use Prim.Native.Nat.{ℕ, _≤_}
+use mathlib.Core.Path.{_≡_, sym, ap, ap₂, _∙_}
 use mathlib.Core.Bool.{true}
 use mathlib.Core.List.{List, []}
 use native.Mathlib.Omega.{arith}
-use lib.ListN.{length, take, getD}
-use borrow.Author.Tests.{le-leb, lt-leb}
-use Rattle.base.specs.Bytes.{part}
-use Rattle.records.specs.Body.{walked}
-use Rattle.store.specs.Image.{body, recordsOf, wellFormed}
-use Rattle.bodies.specs.declared.rules.Rule.{Rule}
-use Rattle.templates.specs.declared.Search.{Search}
-use Rattle.files.specs.declared.File.the-variants.{Records}
-use Rattle.session.specs.Order.{inOrder}
-use Rattle.session.specs.Session.{placed}
-use Rattle.session.specs.declared.Place.the-variants.{Record as OnRecord}
-use Rattle.session.specs.declared.Session.{Session}
-use Rattle.session.specs.declared.Task.the-variants.{ReadRecords}
-use Rattle.session.proofs.Steps.{FileReached}
-use Rattle.found.specs.Found.{hits, reply, foundLength}
-use Rattle.found.proofs.Matching.{hits-length}
-use Rattle.found.proofs.Listing.{found-length, reply-whole}
-use Rattle.found.proofs.Listing.{found-bound}
-use Rattle.effects.specs.Outcome.{says}
-use Rattle.machine.specs.Effects.{hitsOf, foundOf, sought}
-use Rattle.machine.proofs.Reaching.{first-list, list-few}
+use lib.ListN.{length, take, getD, replicate, length-replicate}
+use borrow.Author.Tests.{eq-eqb, ne-eqb}
+use Rattle.base.proofs.Runs.{part-sets}
+use Rattle.store_image.specs.Image.{recordsOf, wellFormed}
+use Rattle.store_kinds.specs.declared.rules.Rule.{Rule}
+use Rattle.store_files.specs.Loops.{Stored}
+use Rattle.objects_templates.specs.declared.Search.{Search}
+use Rattle.machine_session.specs.Session.{placed}
+use Rattle.machine_session.specs.declared.Place.the-variants.{OnRecord}
+use Rattle.machine_session.specs.declared.Session.{Session}
+use Rattle.machine_reply_search.specs.Found.{kept}
+use Rattle.machine_reply_search.proofs.Matching.{hits-length}
+use Rattle.machine_reply_search.proofs.Listing.{reply-whole, found-bound}
+use Rattle.machine_record.specs.SearchRecord.{fileIn, textIn, searchHits, searchReply, searchStatus}
+use Rattle.machine_answer.specs.Outcome.{says}
+use Rattle.machine.specs.Effects.{searched}
+use Rattle.machine.proofs.Reaching.{records-few}
 
-module _ (img : List ℕ) (s : Session) (d : List ℕ) (r : Rule) (q : Search) (o : wellFormed img ≡ true) (f : FileReached img s ReadRecords (Records r)) where
-  -- the code's matches are the records' matches
-  pub same-hits : {xs text : List ℕ} → xs ≡ body img (r .kind) → text ≡ part d (q .text .at) (q .text .len)
-      → hits (take 254 (walked xs)) (q .offset) (q .number) text (q .one) ≡ hitsOf img d r q
-  unfolding hitsOf
-  same-hits x t = ap₂ (λ (rs : List (List ℕ)) (y : List ℕ). hits rs (q .offset) (q .number) y (q .one)) (first-list img s ReadRecords r o f x) t
+module _ (img d : List ℕ) (r : Rule) (q : Search) (o : wellFormed img ≡ true) (f : Stored img r) where
+  abbrev listed : List ℕ
+  listed = searchHits (recordsOf img (r .kind)) d q
 
-  pub hits-few : length (hitsOf img d r q) ≤ 254
-  unfolding hitsOf
+  hits-few : length listed ≤ 254
+  unfolding searchHits
   hits-few =
-      omega
-      (arith, list-few img s ReadRecords r o f, hits-length (recordsOf img (r .kind)) (q .offset) (q .number) (part d (q .text .at) (q .text .len)) (q .one))
+      omega (arith, records-few img r o f, hits-length (recordsOf img (r .kind)) (q .offset) (q .number) (textIn d q) (q .one))
 
-  module _ (small : length (part d (q .file .at) (q .file .len)) ≤ 2) where
-    pub reply-found : {file ns : List ℕ} → file ≡ part d (q .file .at) (q .file .len) → ns ≡ hitsOf img d r q → reply file ns ≡ foundOf img d r q
-    unfolding foundOf
-    reply-found p e = ap₂ reply p e ∙ reply-whole (part d (q .file .at) (q .file .len)) (hitsOf img d r q) (omega arith)
+  -- the numbers that are kept begin with those that are listed
+  pub hits-listed : {n : ℕ} {numbers : List ℕ} → n ≡ length listed → numbers ≡ kept listed → take n numbers ≡ listed
+  unfolding kept
+  hits-listed e k =
+      ap₂ take e k ∙ part-sets (replicate 254 0) 0 listed (omega (arith, hits-few, length-replicate {A = ℕ} 254 0))
 
-    pub found-short : length (foundOf img d r q) ≤ 2048
-    unfolding foundOf
-    found-short = found-bound (part d (q .file .at) (q .file .len)) (hitsOf img d r q) small hits-few
+  -- a reply is short enough for a response
+  pub reply-short : length (fileIn d q) ≤ 2 → length (searchReply (recordsOf img (r .kind)) d q) ≤ 2048
+  unfolding searchReply
+  reply-short small =
+      let e = ap length (reply-whole (fileIn d q) listed (omega (arith, small))) in
+      omega (arith, e, found-bound (fileIn d q) listed small hits-few)
 
-    -- its length, known before it is written
-    pub length-known : {file : List ℕ} {n : ℕ} → file ≡ part d (q .file .at) (q .file .len) → n ≡ length (hitsOf img d r q) → foundLength (length file) n ≡ length (foundOf img d r q)
-    unfolding foundOf
-    length-known p e =
-        ap₂ (λ (l : List ℕ) (k : ℕ). foundLength (length l) k) p e
-        ∙ found-length (part d (q .file .at) (q .file .len)) (hitsOf img d r q) (omega arith) hits-few
-
--- which of the three answers
+-- which of the answers
 module _ (img : List ℕ) (s : Session) (d buf : List ℕ) (r : Rule) (q : Search) (ne : ℕ) where
-  pub sought-none : length (hitsOf img d r q) ≡ 0 → sought img s d buf r q ne ≡ says 0x6282 [] s img buf
-  unfolding sought inOrder
-  sought-none e = simp (lt-leb 1 (length (hitsOf img d r q)) (omega arith))
+  abbrev rs : List (List ℕ)
+  rs = recordsOf img (r .kind)
 
-  pub sought-over : 1 ≤ length (hitsOf img d r q) → ne < length (foundOf img d r q) → sought img s d buf r q ne ≡ says 0x6700 [] s img buf
-  unfolding sought inOrder
-  sought-over e h = simp (le-leb 1 (length (hitsOf img d r q)) e, lt-leb (length (foundOf img d r q)) ne h)
+  pub searched-refused : {w : ℕ} → w ≡ searchStatus rs d q ne → (w ≡ 0x9000 → ⊥) → searched img s d buf r q ne ≡ says w [] s img buf
+  unfolding searched
+  searched-refused p z =
+      simp (ne-eqb (searchStatus rs d q ne) 0x9000 (λ e. z (p ∙ e))) (ap (λ (x : ℕ). says x [] s img buf) (sym p))
 
-  pub sought-found : 1 ≤ length (hitsOf img d r q) → length (foundOf img d r q) ≤ ne
-      → sought img s d buf r q ne ≡ says 0x9000 (foundOf img d r q) (placed s (OnRecord (r .id) (getD (hitsOf img d r q) 0 0))) img buf
-  unfolding sought inOrder
-  sought-found e h = simp (le-leb 1 (length (hitsOf img d r q)) e, le-leb (length (foundOf img d r q)) ne h)
-
--- not none is at least one
-pub some : {n m : ℕ} → n ≡ m → (n ≡ 0 → ⊥) → 1 ≤ m
-some e z = omega arith
+  pub searched-found : 0x9000 ≡ searchStatus rs d q ne
+      → searched img s d buf r q ne ≡ says 0x9000 (searchReply rs d q) (placed s (OnRecord (r .id) (getD (searchHits rs d q) 0 0))) img buf
+  unfolding searched
+  searched-found p = simp (eq-eqb (searchStatus rs d q ne) 0x9000 (sym p))

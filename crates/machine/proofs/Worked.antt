@@ -1,56 +1,48 @@
--- Document 01's "A card to try": m1 to m10 in order, one table, computed from the definitions.
-use Prim.Native.Nat.{ℕ, _+_, _/_, _%_}
+-- The card to try, m1 to m10 in order [T1]: one table, computed from the definitions. Read section T of docs/RULES.md before. Exports `table`.
+use Prim.Native.Nat.{ℕ, _*_, _/_, _%_}
 use mathlib.Core.Path.{_≡_, refl}
 use mathlib.Core.List.{List, [], _∷_, _++_}
 use lib.ListN.{length, take, replicate, set as put-at}
-use Rattle.session.specs.Session.{placed, entered}
-use Rattle.session.specs.declared.Session.{Session}
-use Rattle.session.specs.declared.Place.the-variants.{Record as OnRecord}
-use Rattle.base.specs.Bytes.{splice, fits as fits-base, put}
-use Rattle.base.specs.Choice.{every}
-use Rattle.bodies.specs.Biometrics.{state, written as written-store-biometrics, room, content as content-store, bioOk, takes as takes-store-biometrics, updated, update, activate as activate-store}
-use Rattle.records.specs.Body.{count, behind, place, firsts, records, nth, walkAt, walkTo, walked, used, fits as fits-store, okAt, okTo, bodyOk, takes as takes-store-body, written as written-store-body, appended, append}
-use Rattle.store.specs.Image.{findFrom, find, has, there, present, applicationOf, sectionOk, sectionsOk, wellFormed, body, recordsOf, withBody, appendTo as appendTo-store, updateIn, activateIn}
-use Rattle.records.specs.Little.{le16, le32, bytes16, bytes32}
-use Rattle.bodies.specs.Rules.{rules, rowOf, firstOf as firstOf-store, ruleOf, allRules, isBiometrics, kindOk}
-use Rattle.objects.specs.Encoding.{Bytes, perhaps, encode, Sized, leaves, leafCount, deep, Follows, Proper}
-use Rattle.objects.specs.Form.{formIn, formOf, readForm, readBy, firstOf as firstOf-objects}
-use Rattle.objects.specs.Head.{lengthOf, headOf}
-use Rattle.writer.specs.Number.{big, bytesIn, bytesOf, shortest}
-use Rattle.objects.specs.Places.{numberOf as numberOf-objects}
-use Rattle.templates.specs.Reference.{referenceData, readReference}
-use Rattle.templates.specs.Search.{searchData, readSearch}
-use Rattle.templates.specs.Update.{updateData, readUpdate}
-use Rattle.window.specs.Window.{begins, occursIn, windowOf, matchesIn}
-use Rattle.writer.specs.Writer.{headBytes, after}
-use Rattle.writer.specs.Writing.{lengthBytes, tagBytes, tlv}
-use Rattle.files.specs.Files.{biometricsById, byId, byShort, idOf, kindOf, content as content-files}
-use Rattle.files.specs.Master.{info, aid, entry, entryOf, entries, dir}
-use Rattle.rights.specs.Chain.{certificate, joinedBytes, joined as joined-rights, clearedBytes, cleared, noRights, effective, sameBytes, same, isCleared}
-use Rattle.rights.specs.Rights.{bit, flagged, biometricsByte, recordBit, certificateBit, mayRecords, biometricsBit, mayBiometrics}
-use Rattle.session.specs.Order.{inOrder}
-use Rattle.session.specs.Reach.{suits, isCertificates, activated, permitted, reachFile, reach}
-use Rattle.session.specs.Refusals.{numberOf as numberOf-session, refusal, openRefusal}
-use Rattle.session.specs.Session.{opened, currentId, set, currentRecord, applicationFits, placeFits, fits as fits-session}
-use Rattle.apdu.specs.Shape.{pair, orMost, headerOf, framed, firstOf as firstOf-apdu, shapes, shapeOf}
-use Rattle.transparent.specs.Activate.{activate as activate-decision}
-use Rattle.recordfiles.specs.AppendRecord.{appendTo as appendTo-decision, appendRecord}
-use Rattle.commands.specs.Decide.{byIns, byOwnIns, byClass, decide, dataOf}
-use Rattle.selecting.specs.Fmm.{reportOf, fmmNamed, fmmFile, lcFits, fmm}
-use Rattle.transparent.specs.ReadBinary.{readNamed, readOffset, readAt, readBinary}
-use Rattle.recordfiles.specs.ReadRecord.{recordNamed, readFrom, fourOrFive, allOfRecord, readRecord}
-use Rattle.recordfiles.specs.SearchRecord.{searchNamed, searchRecord}
-use Rattle.selecting.specs.Select.{aidOf, selectAid, selectMaster, selectFile, chosenBy, oneOfThree, lengthFits, select}
-use Rattle.decision.specs.Tests.{lcOnly, leOnly, neither, allLe, two, orCurrent}
-use Rattle.transparent.specs.UpdateBinary.{updateNamed, updateAt, updateBinary}
-use Rattle.found.specs.Found.{isMatch, matchingTo, matching, hits, kept, listed, foundData, reply, foundLength}
-use Rattle.joined.specs.Joined.{joined as joined-records, recordsData}
-use Rattle.report.specs.Report.{capacity, further, total, remaining, existing, asked, reportData}
-use Rattle.machine.specs.Effects.{hitsOf, foundOf, sought, done}
-use Rattle.effects.specs.Outcome.{word, says}
-use Rattle.machine.specs.Step.{taken, step, opening}
+use Rattle.machine_session.specs.declared.Session.{Session}
+use Rattle.machine_session.specs.declared.Place.the-variants.{OnRecord}
+use Rattle.base.specs.Bytes.{splice, putFits, put}
+use Rattle.base.specs.Choice.{allOf}
+use Rattle.store_records.specs.Body.{count, behind, place, firsts, records, nth, used, appendFits, okAt, okTo, bodyOk, appendable, recordBytes, appended, append}
+use Rattle.store_records.specs.Little.{le16, le32, bytes16}
+use Rattle.store_kinds.specs.Rules.{rules, firstRule, ruleOf, allRules, isBiometrics, applicationOf, there, presentBy, kindOk}
+use Rattle.store_image.specs.Image.{findFrom, find, has, present, sectionOk, sectionsOk, wellFormed, body, recordsOf, withBody, appendTo}
+use Rattle.store_files.specs.Files.{byId, byShort, idOf}
+use Rattle.store_files.specs.Master.{aidPrefix, agreesTo, aidOf}
+use Rattle.objects_writer.specs.Number.{big, bytesIn, bytesOf, shortest}
+use Rattle.objects_writer.specs.Writing.{lengthBytes, tagBytes, tlv}
+use Rattle.objects_reader.specs.Form.{formIn, formOf, readForm, readBy}
+use Rattle.objects_reader.specs.Head.{lengthOf, headOf}
+use Rattle.objects_reader.specs.Places.{numberIn}
+use Rattle.objects_templates.specs.Reference.{readReference}
+use Rattle.objects_templates.specs.Search.{readSearch}
+use Rattle.machine_rights.specs.Chain.{certificate, joinedBytes, joined, clearedBytes, cleared, noRights, held, effective, sameBytes, same, isCleared}
+use Rattle.machine_rights.specs.Rights.{bit, flagged, recordBit, certificateBit, mayRecords}
+use Rattle.machine_apdu.specs.Shape.{be16At, orMost, headerOf, framed, firstShape, shapes, shapeOf}
+use Rattle.machine_session.specs.Order.{inOrder}
+use Rattle.machine_session.specs.Resolve.{fileMeant, isCertificates, mayRecord, mayInspect, resolveRecord, resolveFile}
+use Rattle.machine_session.specs.Session.{opened, isCurrent, setFile, currentRecord, applicationFits, placeFits, sessionFits, placed, entered}
+use Rattle.machine_session.specs.Verdict.{verdict}
+use Rattle.machine_window.specs.Window.{begins, occursIn, windowOf, matchesIn}
+use Rattle.machine_reply_record.specs.Joined.{recordsJoined, recordsData}
+use Rattle.machine_reply_search.specs.Found.{isMatch, matchingTo, matching, hits, listed, foundData, reply}
+use Rattle.machine_reply_fmm.specs.Report.{capacity, further, total, remaining, existing, asked, reportData}
+use Rattle.machine_action.specs.Tests.{lcOnly, leOnly, neither, allLe, be16, orCurrent}
+use Rattle.machine_record.specs.AppendRecord.{appendOn, appendRecord}
+use Rattle.machine_record.specs.ReadRecord.{recordNamed, fourOrFive, readRecordOn, allOfRecord, readRecord}
+use Rattle.machine_record.specs.SearchRecord.{searchNamed, searchRecord, searchHits, searchReply, searchStatus}
+use Rattle.machine_select.specs.Fmm.{fmmOn, fmmNamed, fmmFile, lcFits, fmm}
+use Rattle.machine_select.specs.Select.{selectBy, oneOfThree, lengthFits, select}
+use Rattle.machine_dispatch.specs.Decide.{byIns, byOwnIns, byClass, decide, dataOf}
+use Rattle.machine_answer.specs.Outcome.{word, says}
+use Rattle.machine.specs.Effects.{searched, done}
+use Rattle.machine.specs.Step.{stepBy, step}
 
--- "Sections 0101, 0102, 011A, each L = 40": the first with records, free bytes zero
+-- three sections of 40 bytes: 0101 with the records, 0102 and 011A empty; free bytes are zero
 unfoldable pub flat : List (List ℕ) → List ℕ
 flat [] = []
 flat (r ∷ rs) = length r ∷ 0 ∷ (r ++ flat rs)
@@ -70,7 +62,7 @@ usa = 0x5F ∷ 0x44 ∷ 0x03 ∷ 0x55 ∷ 0x53 ∷ 0x41 ∷ []
 unfoldable pub fra : List ℕ
 fra = 0x5F ∷ 0x44 ∷ 0x03 ∷ 0x46 ∷ 0x52 ∷ 0x41 ∷ []
 
--- "all rights"
+-- three certificates with all rights
 unfoldable pub everything : List ℕ
 everything = replicate 60 0xFF
 
@@ -101,10 +93,14 @@ Runs img s [] = Unit {0}
 Runs img s (c ∷ cs) =
     (step img s (c .command) buffer ≡ says (c .answers) (c .data-of) (c .session) (c .image) buffer) × Runs (c .image) (c .session) cs
 
+-- SELECT of the travel application by its AID
+abbrev pub select-travel : List ℕ
+select-travel = 0x00 ∷ 0xA4 ∷ 0x04 ∷ 0x0C ∷ 0x07 ∷ 0xA0 ∷ 0x00 ∷ 0x00 ∷ 0x02 ∷ 0x47 ∷ 0x20 ∷ 0x01 ∷ []
+
 abbrev pub calls : List Call
 calls =
     -- m1
-    call (0x00 ∷ 0xA4 ∷ 0x04 ∷ 0x0C ∷ 0x07 ∷ 0xA0 ∷ 0x00 ∷ 0x00 ∷ 0x02 ∷ 0x47 ∷ 0x20 ∷ 0x01 ∷ []) 0x9000 [] travel (card [])
+    call select-travel 0x9000 [] travel (card [])
     -- m2
     ∷ call (0x00 ∷ 0xE2 ∷ 0x00 ∷ 0x08 ∷ 0x06 ∷ 0x5F ∷ 0x44 ∷ 0x03 ∷ 0x55 ∷ 0x53 ∷ 0x41 ∷ []) 0x9000 [] (record-of 1) (card (usa ∷ []))
     -- m3
@@ -131,14 +127,13 @@ calls =
     ∷ call (0x00 ∷ 0xB2 ∷ 0x01 ∷ 0x04 ∷ 0x00 ∷ []) 0x6700 [] (record-of 3) (card (usa ∷ fra ∷ replicate 20 0x11 ∷ []))
     ∷ []
 
-pub table : Runs (card []) (opened everything) calls
-unfolding flat section filled card usa fra buffer everything travel record-of splice fits-base put every state written-store-biometrics room content-store bioOk takes-store-biometrics updated update activate-store count behind place firsts records nth walkAt walkTo walked used fits-store okAt okTo bodyOk takes-store-body written-store-body appended append findFrom find has there present applicationOf sectionOk sectionsOk wellFormed body recordsOf withBody appendTo-store updateIn activateIn le16 le32 bytes16 bytes32 rules rowOf firstOf-store ruleOf allRules isBiometrics kindOk Bytes perhaps encode Sized leaves leafCount deep Follows Proper formIn formOf readForm readBy firstOf-objects lengthOf headOf big bytesIn bytesOf shortest numberOf-objects referenceData readReference searchData readSearch updateData readUpdate begins occursIn windowOf matchesIn headBytes after lengthBytes tagBytes tlv biometricsById byId byShort idOf kindOf content-files info aid entry entryOf entries dir certificate joinedBytes joined-rights clearedBytes cleared noRights effective sameBytes same isCleared bit flagged biometricsByte recordBit certificateBit mayRecords biometricsBit mayBiometrics inOrder suits isCertificates activated permitted reachFile reach numberOf-session refusal openRefusal opened currentId set currentRecord applicationFits placeFits fits-session pair orMost headerOf framed firstOf-apdu shapes shapeOf activate-decision appendTo-decision appendRecord byIns byOwnIns byClass decide dataOf reportOf fmmNamed fmmFile lcFits fmm readNamed readOffset readAt readBinary recordNamed readFrom fourOrFive allOfRecord readRecord searchNamed searchRecord aidOf selectAid selectMaster selectFile chosenBy oneOfThree lengthFits select lcOnly leOnly neither allLe two orCurrent updateNamed updateAt updateBinary isMatch matchingTo matching hits kept listed foundData reply foundLength joined-records recordsData capacity further total remaining existing asked reportData hitsOf foundOf sought done word says taken step opening
-table = (refl, (refl, (refl, (refl, (refl, (refl, (refl, (refl, (refl, (refl, (refl, (refl, (refl, tt)))))))))))))
+-- m1 where certificate k, of 0 to 2, lacks the travel flag: 6982, and nothing changes
+unfoldable pub lacking : ℕ → List ℕ
+lacking k = put-at everything (20 * k) 0xFE
 
--- m1: "6982 if one certificate lacks the travel flag"
-unfoldable pub lacking : List ℕ
-lacking = put-at everything 20 6
+abbrev pub Stays : Session → Type 0
+Stays s = step (card []) s select-travel buffer ≡ says 0x6982 [] s (card []) buffer
 
-pub flag-lacking : step (card []) (opened lacking) (0x00 ∷ 0xA4 ∷ 0x04 ∷ 0x0C ∷ 0x07 ∷ 0xA0 ∷ 0x00 ∷ 0x00 ∷ 0x02 ∷ 0x47 ∷ 0x20 ∷ 0x01 ∷ []) buffer ≡ says 0x6982 [] (opened lacking) (card []) buffer
-unfolding lacking flat section filled card usa fra buffer everything travel record-of splice fits-base put every state written-store-biometrics room content-store bioOk takes-store-biometrics updated update activate-store count behind place firsts records nth walkAt walkTo walked used fits-store okAt okTo bodyOk takes-store-body written-store-body appended append findFrom find has there present applicationOf sectionOk sectionsOk wellFormed body recordsOf withBody appendTo-store updateIn activateIn le16 le32 bytes16 bytes32 rules rowOf firstOf-store ruleOf allRules isBiometrics kindOk Bytes perhaps encode Sized leaves leafCount deep Follows Proper formIn formOf readForm readBy firstOf-objects lengthOf headOf big bytesIn bytesOf shortest numberOf-objects referenceData readReference searchData readSearch updateData readUpdate begins occursIn windowOf matchesIn headBytes after lengthBytes tagBytes tlv biometricsById byId byShort idOf kindOf content-files info aid entry entryOf entries dir certificate joinedBytes joined-rights clearedBytes cleared noRights effective sameBytes same isCleared bit flagged biometricsByte recordBit certificateBit mayRecords biometricsBit mayBiometrics inOrder suits isCertificates activated permitted reachFile reach numberOf-session refusal openRefusal opened currentId set currentRecord applicationFits placeFits fits-session pair orMost headerOf framed firstOf-apdu shapes shapeOf activate-decision appendTo-decision appendRecord byIns byOwnIns byClass decide dataOf reportOf fmmNamed fmmFile lcFits fmm readNamed readOffset readAt readBinary recordNamed readFrom fourOrFive allOfRecord readRecord searchNamed searchRecord aidOf selectAid selectMaster selectFile chosenBy oneOfThree lengthFits select lcOnly leOnly neither allLe two orCurrent updateNamed updateAt updateBinary isMatch matchingTo matching hits kept listed foundData reply foundLength joined-records recordsData capacity further total remaining existing asked reportData hitsOf foundOf sought done word says taken step opening
-flag-lacking = refl
+pub table : (Stays (opened (lacking 0)) × Stays (opened (lacking 1)) × Stays (opened (lacking 2))) × Runs (card []) (opened everything) calls
+unfolding flat section filled card usa fra buffer everything travel record-of lacking splice putFits put allOf count behind place firsts records nth used appendFits okAt okTo bodyOk appendable recordBytes appended append le16 le32 bytes16 rules firstRule ruleOf allRules isBiometrics applicationOf there presentBy kindOk findFrom find has present sectionOk sectionsOk wellFormed body recordsOf withBody appendTo byId byShort idOf aidPrefix agreesTo aidOf big bytesIn bytesOf shortest lengthBytes tagBytes tlv formIn formOf readForm readBy lengthOf headOf numberIn readReference readSearch certificate joinedBytes joined clearedBytes cleared noRights held effective sameBytes same isCleared bit flagged recordBit certificateBit mayRecords be16At orMost headerOf framed firstShape shapes shapeOf inOrder fileMeant isCertificates mayRecord mayInspect resolveRecord resolveFile opened isCurrent setFile currentRecord applicationFits placeFits sessionFits verdict begins occursIn windowOf matchesIn recordsJoined recordsData isMatch matchingTo matching hits listed foundData reply capacity further total remaining existing asked reportData lcOnly leOnly neither allLe be16 orCurrent appendOn appendRecord recordNamed fourOrFive readRecordOn allOfRecord readRecord searchNamed searchRecord searchHits searchReply searchStatus fmmOn fmmNamed fmmFile lcFits fmm selectBy oneOfThree lengthFits select byIns byOwnIns byClass decide dataOf word says searched done stepBy step
+table = ((refl, refl, refl), (refl, (refl, (refl, (refl, (refl, (refl, (refl, (refl, (refl, (refl, (refl, (refl, (refl, tt))))))))))))))

@@ -1,62 +1,51 @@
--- What each decision does. A status word alone leaves image and session as they came; an effect answers 9000.
+-- What each action does. A status word alone leaves image and session as they came; any other action answers 9000, but for a search.
 use Prim.Native.Nat.{ℕ, _+_}
-use mathlib.Core.List.{List, [], _∷_}
-use lib.ListN.{length, getD}
-use lib.Dec.{leb}
+use mathlib.Core.List.{List, []}
+use lib.ListN.{getD}
+use lib.Dec.{eqb}
+use Rattle.base.specs.Choice.{ifElse}
 use Rattle.base.specs.Bytes.{part}
-use Rattle.records.specs.Body.{count}
-use Rattle.store.specs.Image.{body, recordsOf, appendTo, updateIn, activateIn}
-use Rattle.bodies.specs.declared.rules.Rule.{Rule}
-use Rattle.templates.specs.declared.Search.{Search}
-use Rattle.files.specs.Files.{idOf, kindOf, content}
-use Rattle.files.specs.declared.File.the-variants.{Records}
-use Rattle.joined.specs.Joined.{recordsData}
-use Rattle.found.specs.Found.{hits, foundData}
-use Rattle.report.specs.Report.{total, remaining, existing, reportData}
-use Rattle.session.specs.Order.{inOrder}
-use Rattle.session.specs.Session.{placed, entered, set}
-use Rattle.session.specs.declared.Place.the-variants.{File as OnFile, Record as OnRecord}
-use Rattle.session.specs.declared.Session.{Session}
-use Rattle.decision.specs.declared.Decision.{Decision}
-use Rattle.decision.specs.declared.Decision.the-variants.{Status, Enter, Choose, Bytes, Write, Activate, Append, Read, Seek, Report}
-use Rattle.effects.specs.Outcome.{Outcome, says}
+use Rattle.store_records.specs.Body.{count}
+use Rattle.store_kinds.specs.Rules.{biometricsKind}
+use Rattle.store_image.specs.Image.{body, recordsOf, appendTo, updateIn, activateIn}
+use Rattle.store_kinds.specs.declared.rules.Rule.{Rule}
+use Rattle.objects_templates.specs.declared.Search.{Search}
+use Rattle.store_files.specs.Files.{idOf, fileBytes}
+use Rattle.store_files.specs.declared.File.the-variants.{RecordFile, TransparentFile}
+use Rattle.store_files.specs.declared.Transparent.the-variants.{Biometrics}
+use Rattle.machine_apdu.specs.Status.{normal}
+use Rattle.machine_reply_record.specs.Joined.{recordsData}
+use Rattle.machine_reply_fmm.specs.Report.{total, remaining, existing, reportData}
+use Rattle.machine_session.specs.Session.{placed, entered, setFile}
+use Rattle.machine_session.specs.declared.Place.the-variants.{OnFile, OnRecord}
+use Rattle.machine_session.specs.declared.Session.{Session}
+use Rattle.machine_record.specs.SearchRecord.{searchHits, searchReply, searchStatus}
+use Rattle.machine_action.specs.declared.Action.{Action}
+use Rattle.machine_action.specs.declared.Action.the-variants.{Status, SelectApplication, SelectFile, ReadBinary, UpdateBinary, Activate, AppendRecord, ReadRecord, SearchRecord, Report}
+use Rattle.machine_answer.specs.Outcome.{Outcome, says}
 
--- the numbers of the records that a search lists
-unfoldable pub hitsOf : List ℕ → List ℕ → Rule → Search → List ℕ
-hitsOf img d r q = hits (recordsOf img (r .kind)) (q .offset) (q .number) (part d (q .text .at) (q .text .len)) (q .one)
+-- a search that answers 9000 lists what matches, and the first of it becomes the current record [Q9] [Q12]
+unfoldable pub searched : List ℕ → Session → List ℕ → List ℕ → Rule → Search → ℕ → Outcome
+searched img s d buf r q ne =
+    let rs = recordsOf img (r .kind) in
+    ifElse (eqb (searchStatus rs d q ne) normal)
+    (says normal (searchReply rs d q) (placed s (OnRecord (r .id) (getD (searchHits rs d q) 0 0))) img buf)
+    (says (searchStatus rs d q ne) [] s img buf)
 
--- "Else `7F76`{`51` as sent, `02 01 nn` for each}"
-unfoldable pub foundOf : List ℕ → List ℕ → Rule → Search → List ℕ
-foundOf img d r q = foundData (part d (q .file .at) (q .file .len)) (hitsOf img d r q)
-
--- SEARCH RECORD, step 10: "None: 6282, no data." "A reply over Ne: 6700." "Sets the file and, as current, the first match."
-unfoldable pub sought : List ℕ → Session → List ℕ → List ℕ → Rule → Search → ℕ → Outcome
-sought img s d buf r q ne =
-    inOrder
-    ((leb 1 (length (hitsOf img d r q)), says 0x6282 [] s img buf)
-    ∷ (leb (length (foundOf img d r q)) ne, says 0x6700 [] s img buf)
-    ∷ [])
-    (says 0x9000 (foundOf img d r q) (placed s (OnRecord (r .id) (getD (hitsOf img d r q) 0 0))) img buf)
-
--- d is the command's data field
-unfoldable pub done : Decision → List ℕ → Session → List ℕ → List ℕ → Outcome
+-- d is the command's data field [O13] [L6] [L7] [Y5] [Y6] [W5] [A2] [G4] [J5] [J6] [Z4] [Z8]
+unfoldable pub done : Action → List ℕ → Session → List ℕ → List ℕ → Outcome
 done (Status w) img s d buf = says w [] s img buf
--- "Selecting an application or 3F00 clears the current place"
-done (Enter a) img s d buf = says 0x9000 [] (entered s a) img buf
--- "selecting a file always drops the record"
-done (Choose f) img s d buf = says 0x9000 [] (placed s (OnFile (idOf f))) img buf
--- READ BINARY: the bytes, "Sets the file"
-done (Bytes f o n) img s d buf = says 0x9000 (part (content img f) o n) (set s f) img buf
--- UPDATE BINARY: "Writes; w becomes max(w, offset + length). Sets the file."
-done (Write f w) img s d buf =
-    says 0x9000 [] (set s f) (updateIn img (kindOf f) (w .offset) (part d (w .bytes .at) (w .bytes .len))) buf
--- ACTIVATE: "State becomes 1."
-done (Activate f) img s d buf = says 0x9000 [] s (activateIn img (kindOf f)) buf
--- APPEND RECORD: "The new record becomes current."
-done (Append r) img s d buf =
-    says 0x9000 [] (placed s (OnRecord (r .id) (count (body img (r .kind)) + 1))) (appendTo img (r .kind) d) buf
--- READ RECORD: "Returns the records joined, cut at 2,048 bytes. Sets the file."
-done (Read r a b) img s d buf = says 0x9000 (recordsData (recordsOf img (r .kind)) a b) (set s (Records r)) img buf
-done (Seek r q ne) img s d buf = sought img s d buf r q ne
--- FMM: the numbers as asked, "Sets the file"
-done (Report f p2) img s d buf = says 0x9000 (reportData p2 (total img f) (remaining img f) (existing img f)) (set s f) img buf
+-- an application, or the master file, has no current file at first
+done (SelectApplication a) img s d buf = says normal [] (entered s a) img buf
+-- a file that is selected has no current record, even where it was the current file
+done (SelectFile f) img s d buf = says normal [] (placed s (OnFile (idOf f))) img buf
+done (ReadBinary t o n) img s d buf = says normal (part (fileBytes img t) o n) (setFile s (TransparentFile t)) img buf
+done (UpdateBinary n w) img s d buf =
+    says normal [] (setFile s (TransparentFile (Biometrics n))) (updateIn img (biometricsKind n) (w .offset) (part d (w .bytes .at) (w .bytes .len))) buf
+done (Activate n) img s d buf = says normal [] s (activateIn img (biometricsKind n)) buf
+-- the new record becomes the current one
+done (AppendRecord r) img s d buf =
+    says normal [] (placed s (OnRecord (r .id) (count (body img (r .kind)) + 1))) (appendTo img (r .kind) d) buf
+done (ReadRecord r a b) img s d buf = says normal (recordsData (recordsOf img (r .kind)) a b) (setFile s (RecordFile r)) img buf
+done (SearchRecord r q ne) img s d buf = searched img s d buf r q ne
+done (Report f p2) img s d buf = says normal (reportData p2 (total img f) (remaining img f) (existing img f)) (setFile s f) img buf

@@ -2,28 +2,29 @@
 use Prim.Native.Nat.{ℕ}
 use mathlib.Core.List.{List}
 use lib.ListN.{length}
-use Rattle.session.specs.Session.{opened}
-use Rattle.session.specs.Refusals.{refusal, openRefusal}
-use Rattle.session.specs.declared.Session.{Session}
-use Rattle.session.specs.declared.Refusal.{Refusal}
-use Rattle.session.specs.declared.Refusal.the-variants.{Taken, ShortBuffer, BadImage, BadRights, BadSession}
-use Rattle.commands.specs.Decide.{decide, dataOf}
-use Rattle.effects.specs.Outcome.{Outcome, outcome, refused}
+use Rattle.machine_session.specs.Session.{opened, sessionFits}
+use Rattle.machine_session.specs.Verdict.{verdict, openVerdict}
+use Rattle.machine_session.specs.declared.Session.{Session}
+use Rattle.machine_session.specs.declared.Verdict.{Verdict}
+use Rattle.machine_session.specs.declared.Verdict.the-variants.{Accepted, Refused}
+use Rattle.machine_dispatch.specs.Decide.{decide, dataOf}
+use Rattle.machine_answer.specs.Outcome.{Outcome, outcome, refused}
 use Rattle.machine.specs.Effects.{done}
-use Rattle.effects.specs.declared.Answer.{Answer}
+use Rattle.machine_answer.specs.declared.Answer.{Answer}
 
--- a refusal touches nothing; a command that is taken does what is decided
-unfoldable pub taken : Refusal → List ℕ → Session → List ℕ → List ℕ → Outcome
-taken Taken img s cmd buf = done (decide img s cmd) img s (dataOf cmd) buf
-taken ShortBuffer img s cmd buf = outcome (refused ShortBuffer s) img buf
-taken BadImage img s cmd buf = outcome (refused BadImage s) img buf
-taken BadRights img s cmd buf = outcome (refused BadRights s) img buf
-taken BadSession img s cmd buf = outcome (refused BadSession s) img buf
+-- the verdict on a command with a response buffer of n bytes [U5]
+abbrev pub verdictOn : List ℕ → Session → ℕ → Verdict
+verdictOn img s n = verdict img (sessionFits img s) n
 
--- a command
+-- a refusal touches nothing; an accepted command does what it comes to [U6]
+unfoldable pub stepBy : Verdict → List ℕ → Session → List ℕ → List ℕ → Outcome
+stepBy Accepted img s cmd buf = done (decide img s cmd) img s (dataOf cmd) buf
+stepBy (Refused r) img s cmd buf = outcome (refused r s) img buf
+
+-- a command [U5] [U6] [U8]
 unfoldable pub step : List ℕ → Session → List ℕ → List ℕ → Outcome
-step img s cmd buf = taken (refusal img s (length buf)) img s cmd buf
+step img s cmd buf = stepBy (verdictOn img s (length buf)) img s cmd buf
 
--- an opening: "always returns length 0 and status 0"
+-- an opening: length 0 and status 0, and the session that the certificates open [U7]
 unfoldable pub opening : List ℕ → Answer
-opening c = refused (openRefusal c) (opened c)
+opening c = record { verdict = openVerdict c; length = 0; status = 0; session = opened c }

@@ -1,38 +1,40 @@
 // The command machine: command bytes, rights and card image in; response, status word and image out.
-use apdu::Apdu;
-use bodies::rules::Rule;
-use decision::Decision;
-use effects::Answer;
-use files::File;
-use session::Place;
-use session::Refusal;
-use session::Session;
-use store::image;
-use templates::Search;
+use machine_action::Action;
+use machine_answer::Answer;
+use machine_apdu::Apdu;
+use machine_apdu::status;
+use machine_record::search_record::search_body;
+use machine_session::Place;
+use machine_session::Refusal;
+use machine_session::Session;
+use machine_session::Verdict;
+use objects_templates::Search;
+use store_files::File;
+use store_files::Transparent;
+use store_kinds::rules::Rule;
 ghost use mathlib.Core.Path.{_≡_};
 ghost use mathlib.Core.Bool.{true};
 ghost use mathlib.Core.List.{[]};
 ghost use Prim.Native.Nat.{_+_, _≤_};
 ghost use lib.ListN.{length};
-ghost use Rattle.base.specs.Bytes.{put};
-ghost use Rattle.store.specs.Image.{wellFormed};
-ghost use Rattle.decision.specs.declared.Decision.the-variants.{Seek, Read, Report, Bytes as ReadOf};
-ghost use Rattle.files.specs.Files.{content};
-ghost use Rattle.session.specs.declared.Refusal.the-variants.{Taken};
-ghost use Rattle.commands.proofs.Allowing.{Allowed};
-ghost use Rattle.effects.specs.Outcome.{outcome, word, answered, refused as refusedAs};
-ghost use Rattle.machine.specs.Effects.{sought, done};
-ghost use Rattle.machine.specs.Step.{taken as takenAs, step, opening};
+ghost use Rattle.store_image.specs.Image.{wellFormed};
+ghost use Rattle.store_files.specs.Files.{fileBytes};
+ghost use Rattle.machine_action.specs.declared.Action.the-variants.{SearchRecord, ReadRecord, Report, ReadBinary};
+ghost use Rattle.machine_session.specs.declared.Verdict.the-variants.{Accepted};
+ghost use Rattle.machine_dispatch.specs.Loops.{Allowed};
+ghost use Rattle.machine_answer.specs.Outcome.{outcome, refused as refusedAs};
+ghost use Rattle.machine.specs.Effects.{searched, done};
+ghost use Rattle.machine.specs.Step.{stepBy, step, opening};
 
 // Opens a session with the rights of three certificates.
 pub fn open(certificates: &[u8]) -> Answer
     ensures { λ r. ⌜ r ≡ opening (now (certificates .entry)) ⌝ }
 {
     Answer {
-        refusal: session::refuse_open(certificates),
+        verdict: machine_session::open_verdict(certificates),
         length: 0,
         status: 0,
-        session: session::open(certificates),
+        session: machine_session::open(certificates),
     }
 }
 
@@ -41,29 +43,15 @@ fn refused(refusal: Refusal, s: Session) -> Answer
     ensures { λ r. ⌜ r ≡ refusedAs refusal s ⌝ }
 {
     Answer {
-        refusal,
+        verdict: Verdict::Refused(refusal),
         length: 0,
         status: 0,
         session: s,
     }
 }
 
-// Writes a status word behind n bytes of data.
-fn finish(s: Session, w: usize, n: usize, response: &mut [u8]) -> Answer
-    requires { ⌜ n ≤ 2048 ⌝ }
-    ensures { λ r. ⌜ (r ≡ answered n w s) × (now (response .exit) ≡ put (now (response .entry)) n (word w)) ⌝ }
-{
-    effects::put_word(response, n, w);
-    Answer {
-        refusal: Refusal::Taken,
-        length: n + 2,
-        status: w,
-        session: s,
-    }
-}
-
-// SEARCH RECORD from the matches on.
-fn seek(
+// SEARCH RECORD.
+fn search(
     image: &[u8],
     s: Session,
     r: Rule,
@@ -72,38 +60,37 @@ fn seek(
     data: &[u8],
     response: &mut [u8],
 ) -> Answer
-    requires { ⌜ (wellFormed (now image) ≡ true) × (2050 ≤ length (now response)) × Allowed (now image) s (now «data») (Seek r q ne) ⌝ }
-    ensures { λ a. ⌜ outcome a (now (image .entry)) (now (response .exit)) ≡ sought (now (image .entry)) s (now («data» .entry)) (now (response .entry)) r q ne ⌝ }
+    requires { ⌜ (wellFormed (now image) ≡ true) × (2050 ≤ length (now response)) × Allowed (now image) (now «data») (SearchRecord r q ne) ⌝ }
+    ensures { λ a. ⌜ outcome a (now (image .entry)) (now (response .exit)) ≡ searched (now (image .entry)) s (now («data» .entry)) (now (response .entry)) r q ne ⌝ }
 {
-    let t = q.text;
+    let found = search_body(store_image::body(image, r.kind), data, q, ne);
+    if found.status != status::NORMAL {
+        return machine_answer::status_only(s, found.status, response);
+    }
     let p = q.file;
-    let text = base::part(data, t.at, t.len);
-    let file = base::part(data, p.at, p.len);
-    let h = found::search(image::body(image, r.kind), q.offset, q.number, text, q.one);
-    let n = h.n;
-    if n == 0 {
-        return effects::only(s, 0x6282, response);
-    }
-    if ne < found::found_length(file.len(), n) {
-        return effects::only(s, 0x6700, response);
-    }
-    let first = found::first(h);
-    let k = found::put_found(response, file, h);
-    finish(
-        effects::placed(s, Place::Record(r.id, first)),
-        0x9000,
-        k,
+    let hits = found.hits;
+    let first = machine_reply_search::first(hits);
+    let n = machine_reply_search::put_found(response, base::part(data, p.at, p.len), hits);
+    machine_answer::status_behind(
+        machine_answer::placed(s, Place::OnRecord(r.id, first)),
+        status::NORMAL,
+        n as u16,
         response,
     )
 }
 
 // READ RECORD.
-fn read(image: &[u8], s: Session, r: Rule, a: usize, b: usize, response: &mut [u8]) -> Answer
-    requires { ⌜ (wellFormed (now image) ≡ true) × (2050 ≤ length (now response)) × Allowed (now image) s [] (Read r a b) ⌝ }
-    ensures { λ x. ⌜ outcome x (now (image .entry)) (now (response .exit)) ≡ done (Read r a b) (now (image .entry)) s [] (now (response .entry)) ⌝ }
+fn read_record(image: &[u8], s: Session, r: Rule, a: usize, b: usize, response: &mut [u8]) -> Answer
+    requires { ⌜ (wellFormed (now image) ≡ true) × (2050 ≤ length (now response)) × Allowed (now image) [] (ReadRecord r a b) ⌝ }
+    ensures { λ x. ⌜ outcome x (now (image .entry)) (now (response .exit)) ≡ done (ReadRecord r a b) (now (image .entry)) s [] (now (response .entry)) ⌝ }
 {
-    let n = joined::put_records(image::body(image, r.kind), a, b, response);
-    finish(session::set_file(s, File::Records(r)), 0x9000, n, response)
+    let n = machine_reply_record::put_records(store_image::body(image, r.kind), a, b, response);
+    machine_answer::status_behind(
+        machine_session::set_file(s, File::RecordFile(r)),
+        status::NORMAL,
+        n as u16,
+        response,
+    )
 }
 
 // FMM.
@@ -111,55 +98,76 @@ fn report(image: &[u8], s: Session, f: File, p2: usize, response: &mut [u8]) -> 
     requires { ⌜ 2050 ≤ length (now response) ⌝ }
     ensures { λ x. ⌜ outcome x (now (image .entry)) (now (response .exit)) ≡ done (Report f p2) (now (image .entry)) s [] (now (response .entry)) ⌝ }
 {
-    let t = report::total(image, f);
-    let r = report::remaining(image, f);
-    let e = report::existing(image, f);
-    let n = report::put_report(response, p2, t, r, e);
-    finish(session::set_file(s, f), 0x9000, n, response)
+    let t = machine_reply_fmm::total(image, f);
+    let r = machine_reply_fmm::remaining(image, f);
+    let e = machine_reply_fmm::existing(image, f);
+    let n = machine_reply_fmm::put_report(response, p2, t, r, e);
+    machine_answer::status_behind(
+        machine_session::set_file(s, f),
+        status::NORMAL,
+        n as u16,
+        response,
+    )
 }
 
 // READ BINARY.
-fn bytes(image: &[u8], s: Session, f: File, o: usize, n: usize, response: &mut [u8]) -> Answer
-    requires { ⌜ (2050 ≤ length (now response)) × (n ≤ 2048) × (o + n ≤ length (content (now image) f)) ⌝ }
-    ensures { λ x. ⌜ outcome x (now (image .entry)) (now (response .exit)) ≡ done (ReadOf f o n) (now (image .entry)) s [] (now (response .entry)) ⌝ }
+fn read_binary(
+    image: &[u8],
+    s: Session,
+    t: Transparent,
+    o: usize,
+    n: usize,
+    response: &mut [u8],
+) -> Answer
+    requires { ⌜ (2050 ≤ length (now response)) × (n ≤ 2048) × (o + n ≤ length (fileBytes (now image) t)) ⌝ }
+    ensures { λ x. ⌜ outcome x (now (image .entry)) (now (response .exit)) ≡ done (ReadBinary t o n) (now (image .entry)) s [] (now (response .entry)) ⌝ }
 {
-    files::put_content(image, f, o, n, response);
-    finish(session::set_file(s, f), 0x9000, n, response)
+    store_files::put_bytes(image, t, o, n, response);
+    machine_answer::status_behind(
+        machine_session::set_file(s, File::TransparentFile(t)),
+        status::NORMAL,
+        n as u16,
+        response,
+    )
 }
 
-// Carries out what is decided.
-fn apply(image: &mut [u8], s: Session, d: Decision, data: &[u8], response: &mut [u8]) -> Answer
-    requires { ⌜ (wellFormed (now image) ≡ true) × (2050 ≤ length (now response)) × Allowed (now image) s (now «data») d ⌝ }
+// Does what a command comes to.
+fn apply(image: &mut [u8], s: Session, d: Action, data: &[u8], response: &mut [u8]) -> Answer
+    requires { ⌜ (wellFormed (now image) ≡ true) × (2050 ≤ length (now response)) × Allowed (now image) (now «data») d ⌝ }
     ensures { λ a. ⌜ outcome a (now (image .exit)) (now (response .exit)) ≡ done d (now (image .entry)) s (now («data» .entry)) (now (response .entry)) ⌝ }
 {
     match d {
-        Decision::Status(w) => effects::only(s, w, response),
-        Decision::Enter(a) => effects::only(effects::entered(s, a), 0x9000, response),
-        Decision::Choose(f) => effects::only(
-            effects::placed(s, Place::File(files::id_of(f))),
-            0x9000,
+        Action::Status(w) => machine_answer::status_only(s, w, response),
+        Action::SelectApplication(a) => machine_answer::status_only(
+            machine_answer::entered(s, a),
+            status::NORMAL,
             response,
         ),
-        Decision::Bytes(f, o, n) => bytes(image, s, f, o, n, response),
-        Decision::Write(f, w) => effects::write(image, s, f, w, data, response),
-        Decision::Activate(f) => effects::activate(image, s, f, response),
-        Decision::Append(r) => effects::append(image, s, r, data, response),
-        Decision::Read(r, a, b) => read(image, s, r, a, b, response),
-        Decision::Seek(r, q, ne) => seek(image, s, r, q, ne, data, response),
-        Decision::Report(f, p2) => report(image, s, f, p2, response),
+        Action::SelectFile(f) => machine_answer::status_only(
+            machine_answer::placed(s, Place::OnFile(store_files::id_of(f))),
+            status::NORMAL,
+            response,
+        ),
+        Action::ReadBinary(t, o, n) => read_binary(image, s, t, o, n, response),
+        Action::UpdateBinary(n, w) => machine_answer::update(image, s, n, w, data, response),
+        Action::Activate(n) => machine_answer::activate(image, s, n, response),
+        Action::AppendRecord(r) => machine_answer::append(image, s, r, data, response),
+        Action::ReadRecord(r, a, b) => read_record(image, s, r, a, b, response),
+        Action::SearchRecord(r, q, ne) => search(image, s, r, q, ne, data, response),
+        Action::Report(f, p2) => report(image, s, f, p2, response),
     }
 }
 
-// A command that no refusal keeps out.
-fn taken(image: &mut [u8], s: Session, command: &[u8], response: &mut [u8]) -> Answer
+// A command that is accepted.
+fn accepted(image: &mut [u8], s: Session, command: &[u8], response: &mut [u8]) -> Answer
     requires { ⌜ (wellFormed (now image) ≡ true) × (2050 ≤ length (now response)) ⌝ }
-    ensures { λ a. ⌜ outcome a (now (image .exit)) (now (response .exit)) ≡ takenAs Taken (now (image .entry)) s (now (command .entry)) (now (response .entry)) ⌝ }
+    ensures { λ a. ⌜ outcome a (now (image .exit)) (now (response .exit)) ≡ stepBy Accepted (now (image .entry)) s (now (command .entry)) (now (response .entry)) ⌝ }
 {
-    match apdu::shape(command) {
-        Apdu::Bad => effects::only(s, 0x6700, response),
+    match machine_apdu::shape(command) {
+        Apdu::Bad => machine_answer::status_only(s, status::WRONG_LENGTH, response),
         Apdu::Good(f) => {
             let data = base::part(command, f.from, f.lc);
-            let d = commands::by_class(image, s, f, data);
+            let d = machine_dispatch::by_class(image, s, f, data);
             apply(image, s, d, data, response)
         }
     }
@@ -169,11 +177,9 @@ fn taken(image: &mut [u8], s: Session, command: &[u8], response: &mut [u8]) -> A
 pub fn command(image: &mut [u8], s: Session, command: &[u8], response: &mut [u8]) -> Answer
     ensures { λ a. ⌜ outcome a (now (image .exit)) (now (response .exit)) ≡ step (now (image .entry)) s (now (command .entry)) (now (response .entry)) ⌝ }
 {
-    match session::refuse(image, s, response.len()) {
-        Refusal::Taken => taken(image, s, command, response),
-        Refusal::ShortBuffer => refused(Refusal::ShortBuffer, s),
-        Refusal::BadImage => refused(Refusal::BadImage, s),
-        Refusal::BadRights => refused(Refusal::BadRights, s),
-        Refusal::BadSession => refused(Refusal::BadSession, s),
+    let fits = machine_session::session_fits(image, s);
+    match machine_session::judge(image, fits, response.len()) {
+        Verdict::Accepted => accepted(image, s, command, response),
+        Verdict::Refused(r) => refused(r, s),
     }
 }

@@ -1,16 +1,24 @@
--- One command, from the machine's answer to the bytes that a caller gets.
+-- One command, from the machine's answer to the bytes that a caller gets. Read specs/Face.antt before. Exports `called-answered` for bytes
+-- that are a session, `called-refused` for bytes that are none.
 use Prim.Native.Nat.{ℕ}
-use mathlib.Core.Path.{_≡_, ap, ap₂, _∙_}
+use mathlib.Core.Path.{_≡_, sym, ap, ap₂, _∙_}
+use mathlib.Core.Bool.{true, false}
 use mathlib.Core.List.{List}
-use Rattle.session.specs.declared.Session.{Session}
-use Rattle.effects.specs.Outcome.{outcome}
+use lib.ListN.{length}
+use Rattle.machine_session.specs.Verdict.{verdict}
+use Rattle.machine_session.specs.declared.Session.{Session}
+use Rattle.machine_answer.specs.Outcome.{outcome}
 use Rattle.machine.specs.Step.{step}
-use Rattle.effects.specs.declared.Answer.{Answer}
-use Rattle.layout.specs.Layout.{sessionOf}
-use Rattle.malquindo.specs.Face.{resultOf, sessionAfter, calledAs, calledBy, called}
+use Rattle.machine_answer.specs.declared.Answer.{Answer}
+use Rattle.machine_session_bytes.specs.Layout.{isSession, sessionIn}
+use Rattle.malquindo.specs.Face.{resultOf, sessionAfter, calledAs, calledBy, malformed, called}
 
-pub answered : (img ses cmd buf : List ℕ) {s : Session} {a : Answer} {img′ ses′ buf′ : List ℕ} {r : ℕ} → s ≡ sessionOf ses → outcome a img′ buf′ ≡ step img s cmd buf
-    → ses′ ≡ sessionAfter ses (a .status) (a .session) → r ≡ resultOf (a .refusal) (a .length) (a .status) → calledAs r img′ ses′ buf′ ≡ called img ses cmd buf
+pub called-answered : (img ses cmd buf : List ℕ) {s : Session} {a : Answer} {img′ ses′ buf′ : List ℕ} {r : ℕ} → isSession ses ≡ true → s ≡ sessionIn ses → outcome a img′ buf′ ≡ step img s cmd buf
+    → ses′ ≡ sessionAfter ses (a .status) (a .session) → r ≡ resultOf (a .verdict) (a .length) (a .status) → calledAs r img′ ses′ buf′ ≡ called img ses cmd buf
 unfolding called
-answered img ses cmd buf {img′ = img′} {buf′ = buf′} x e k r =
-    ap₂ (λ (n : ℕ) (l : List ℕ). calledAs n img′ l buf′) r k ∙ ap (calledBy ses) (e ∙ ap (λ (t : Session). step img t cmd buf) x)
+called-answered img ses cmd buf {img′ = img′} {buf′ = buf′} y x e k r =
+    simp y (ap₂ (λ (n : ℕ) (l : List ℕ). calledAs n img′ l buf′) r k ∙ ap (calledBy ses) (e ∙ ap (λ (t : Session). step img t cmd buf) x))
+
+pub called-refused : (img ses cmd buf : List ℕ) {r : ℕ} → isSession ses ≡ false → r ≡ resultOf (verdict img false (length buf)) 0 0 → calledAs r img ses buf ≡ called img ses cmd buf
+unfolding called malformed
+called-refused img ses cmd buf n r = simp n (ap (λ (x : ℕ). calledAs x img ses buf) r)

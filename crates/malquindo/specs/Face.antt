@@ -1,62 +1,70 @@
 -- What the functions for C answer, and the session bytes afterwards.
 use Prim.Native.Nat.{ℕ, _+_, _*_, _%_}
-use mathlib.Core.Bool.{Bool}
+use mathlib.Core.Bool.{Bool, false}
 use mathlib.Core.List.{List}
+use lib.ListN.{length}
 use lib.Dec.{eqb}
-use Rattle.base.specs.Choice.{pick}
-use Rattle.base.specs.Bytes.{fits, put}
-use Rattle.session.specs.Refusals.{numberOf}
-use Rattle.session.specs.declared.Session.{Session}
-use Rattle.session.specs.declared.Refusal.{Refusal}
-use Rattle.session.specs.declared.Refusal.the-variants.{Taken, ShortBuffer, BadImage, BadRights, BadSession}
-use Rattle.effects.specs.Outcome.{Outcome}
+use Rattle.base.specs.Choice.{ifElse}
+use Rattle.base.specs.Bytes.{putFits, put}
+use Rattle.machine_apdu.specs.Status.{normal}
+use Rattle.machine_session.specs.Verdict.{verdictNumber, verdict}
+use Rattle.machine_session.specs.declared.Session.{Session}
+use Rattle.machine_session.specs.declared.Refusal.the-variants.{BadSession}
+use Rattle.machine_session.specs.declared.Verdict.{Verdict}
+use Rattle.machine_session.specs.declared.Verdict.the-variants.{Accepted, Refused}
+use Rattle.machine_answer.specs.Outcome.{Outcome}
 use Rattle.machine.specs.Step.{opening, step}
-use Rattle.layout.specs.Layout.{sessionBytes, sessionOf}
-use Rattle.moving.specs.declared.Moved.{Moved}
-use Rattle.moving.specs.declared.Moved.the-variants.{Image, Refused}
+use Rattle.machine_session_bytes.specs.Layout.{sessionBytes, isSession, sessionIn}
+use Rattle.store_move.specs.Moving.{moveRefusalNumber}
+use Rattle.store_move.specs.declared.Moved.{Moved}
+use Rattle.store_move.specs.declared.Moved.the-variants.{Image, Refused as MoveRefused}
 
--- "refusal · 2^32 + length · 2^16 + status". (Length and status are below 65,536.)
-unfoldable pub resultOf : Refusal → ℕ → ℕ → ℕ
-resultOf r length status = numberOf r * 4294967296 + length % 65536 * 65536 + status % 65536
+-- verdict · 2^32 + length · 2^16 + status; length and status are below 65,536 [X3]
+unfoldable pub resultOf : Verdict → ℕ → ℕ → ℕ
+resultOf v length status = verdictNumber v * 4294967296 + length % 65536 * 65536 + status % 65536
 
--- "for opening, a session buffer under 25 bytes gets 4 after 3 is tested"
-unfoldable pub openRefused : Refusal → Bool → Refusal
-openRefused Taken stored = pick stored Taken BadSession
-openRefused ShortBuffer stored = ShortBuffer
-openRefused BadImage stored = BadImage
-openRefused BadRights stored = BadRights
-openRefused BadSession stored = BadSession
+-- an opening: the rights, then whether the session's buffer takes the session [X4]
+abbrev pub openingVerdict : Verdict → Bool → Verdict
+openingVerdict Accepted stored = ifElse stored Accepted (Refused BadSession)
+openingVerdict (Refused r) stored = Refused r
 
+-- [X3] [X4]
 unfoldable pub openResult : List ℕ → List ℕ → ℕ
-openResult c ses = resultOf (openRefused (opening c .refusal) (fits ses 0 (sessionBytes (opening c .session)))) 0 0
+openResult c ses = resultOf (openingVerdict (opening c .verdict) (putFits ses 0 (sessionBytes (opening c .session)))) 0 0
 
--- the session opened, where it fits
+-- the session opened, where it fits [X4]
 unfoldable pub openSession : List ℕ → List ℕ → List ℕ
 openSession c ses = put ses 0 (sessionBytes (opening c .session))
 
--- after a command: "Except on 9000, image and session stay exactly as they came"
+-- after a command: only 9000 writes the session [X5]
 unfoldable pub sessionAfter : List ℕ → ℕ → Session → List ℕ
-sessionAfter ses status s = pick (eqb status 0x9000) (put ses 0 (sessionBytes s)) ses
+sessionAfter ses status s = ifElse (eqb status normal) (put ses 0 (sessionBytes s)) ses
 
--- what one command answers, and every byte of what was lent
+-- what one command answers, and every byte of what was lent [X3] [X5]
 pub record Called : Type 0 where
   pub result : ℕ
   pub image : List ℕ
   pub session : List ℕ
   pub response : List ℕ
 
+-- [X3] [X5]
 abbrev pub calledAs : ℕ → List ℕ → List ℕ → List ℕ → Called
 calledAs r img ses buf = record { result = r; image = img; session = ses; response = buf }
 
+-- [X3] [X5]
 abbrev pub calledBy : List ℕ → Outcome → Called
 calledBy ses o =
-    calledAs (resultOf (o .answer .refusal) (o .answer .length) (o .answer .status)) (o .image) (sessionAfter ses (o .answer .status) (o .answer .session)) (o .buffer)
+    calledAs (resultOf (o .answer .verdict) (o .answer .length) (o .answer .status)) (o .image) (sessionAfter ses (o .answer .status) (o .answer .session)) (o .buffer)
 
--- one step of the machine, by the session that the bytes are
+-- bytes that are no session fit no image: nothing is touched [X2]
+unfoldable pub malformed : List ℕ → List ℕ → List ℕ → Called
+malformed img ses buf = calledAs (resultOf (verdict img false (length buf)) 0 0) img ses buf
+
+-- one step of the machine, in the session that the bytes are [X2] [X5]
 unfoldable pub called : List ℕ → List ℕ → List ℕ → List ℕ → Called
-called img ses cmd buf = calledBy ses (step img (sessionOf ses) cmd buf)
+called img ses cmd buf = ifElse (isSession ses) (calledBy ses (step img (sessionIn ses) cmd buf)) (malformed img ses buf)
 
--- of a move: "refusal · 2^32 + the new image's length (0 on a refusal)". (That length is below 2^32.)
+-- of a move: refusal · 2^32, or the new image's length, which is below 2^32 [X6]
 abbrev pub moveResult : Moved → ℕ
 moveResult (Image n) = n
-moveResult (Refused w) = w * 4294967296
+moveResult (MoveRefused w) = moveRefusalNumber w * 4294967296

@@ -1,21 +1,22 @@
 // The machine for C and for what links like C. include/malquindo.h declares these functions. Every function takes any bytes; what it is
 // lent must not overlap.
-use moving::Moved;
-use session::Refusal;
-use session::Session;
+use machine_apdu::status::NORMAL;
+use machine_session::Refusal;
+use machine_session::Session;
+use machine_session::Verdict;
+use store_move::MoveRefusal;
+use store_move::Moved;
 ghost use mathlib.Core.Path.{_≡_};
 ghost use Prim.Native.Nat.{_≤_};
-ghost use Rattle.session.specs.Refusals.{numberOf};
+ghost use Rattle.machine_session.specs.Verdict.{refusalNumber, verdictNumber};
 ghost use lib.ListN.{length};
-ghost use Rattle.moving.specs.Moving.{carry, carryInto, Numbered};
-ghost use Rattle.malquindo.specs.Face.{moveResult, resultOf, openRefused, openResult, openSession, sessionAfter, calledAs, called};
+ghost use Rattle.store_move.specs.Moving.{moveRefusalNumber, moveCard, moveCardInto};
+ghost use Rattle.malquindo.specs.Face.{moveResult, resultOf, openingVerdict, openResult, openSession, sessionAfter, calledAs, called};
 
-// The refusal's number; 0 where there is none.
-fn number_of(r: Refusal) -> u64
-    ensures { λ n. ⌜ (n ≡ numberOf r) × (n ≤ 4) ⌝ }
+fn refusal_number(r: Refusal) -> u64
+    ensures { λ n. ⌜ (n ≡ refusalNumber r) × (n ≤ 4) ⌝ }
 {
     match r {
-        Refusal::Taken => 0,
         Refusal::ShortBuffer => 1,
         Refusal::BadImage => 2,
         Refusal::BadRights => 3,
@@ -23,28 +24,34 @@ fn number_of(r: Refusal) -> u64
     }
 }
 
-// The three numbers of an answer in one.
-fn result(refusal: Refusal, length: usize, status: usize) -> u64
-    ensures { λ r. ⌜ r ≡ resultOf refusal length status ⌝ }
+fn verdict_number(v: Verdict) -> u64
+    ensures { λ n. ⌜ (n ≡ verdictNumber v) × (n ≤ 4) ⌝ }
 {
-    number_of(refusal) * 4294967296 + (length % 65536) as u64 * 65536 + (status % 65536) as u64
+    match v {
+        Verdict::Accepted => 0,
+        Verdict::Refused(r) => refusal_number(r),
+    }
 }
 
-// Why an opening is refused: for its rights, or because its session cannot be stored.
-fn open_refusal(rights_refusal: Refusal, stored: bool) -> Refusal
-    ensures { λ r. ⌜ r ≡ openRefused «rights_refusal» stored ⌝ }
+// The three numbers of an answer in one.
+fn result(v: Verdict, length: usize, status: usize) -> u64
+    ensures { λ r. ⌜ r ≡ resultOf v length status ⌝ }
 {
-    match rights_refusal {
-        Refusal::Taken => {
+    verdict_number(v) * 4294967296 + (length % 65536) as u64 * 65536 + (status % 65536) as u64
+}
+
+// Whether an opening is accepted: its rights come first, then whether its session could be stored.
+fn opening_verdict(v: Verdict, stored: bool) -> Verdict
+    ensures { λ r. ⌜ r ≡ openingVerdict v stored ⌝ }
+{
+    match v {
+        Verdict::Accepted => {
             if stored {
-                return Refusal::Taken;
+                return Verdict::Accepted;
             }
-            Refusal::BadSession
+            Verdict::Refused(Refusal::BadSession)
         }
-        Refusal::ShortBuffer => Refusal::ShortBuffer,
-        Refusal::BadImage => Refusal::BadImage,
-        Refusal::BadRights => Refusal::BadRights,
-        Refusal::BadSession => Refusal::BadSession,
+        Verdict::Refused(r) => Verdict::Refused(r),
     }
 }
 
@@ -52,10 +59,10 @@ fn open_refusal(rights_refusal: Refusal, stored: bool) -> Refusal
 fn keep(session: &mut [u8], status: usize, s: Session) -> bool
     ensures { λ _. ⌜ now (session .exit) ≡ sessionAfter (now (session .entry)) status s ⌝ }
 {
-    if status != 0x9000 {
+    if status != NORMAL {
         return false;
     }
-    layout::put_session(session, s)
+    machine_session_bytes::put_session(session, s)
 }
 
 // How many bytes a session has.
@@ -63,7 +70,7 @@ fn keep(session: &mut [u8], status: usize, s: Session) -> bool
 pub extern "C" fn malquindo_session_len() -> usize
     ensures { λ r. ⌜ r ≡ 25 ⌝ }
 {
-    layout::LENGTH
+    machine_session_bytes::LENGTH
 }
 
 // Opens a session with the rights of three certificates.
@@ -73,9 +80,9 @@ pub extern "C" fn malquindo_open(rights: &[u8], session: &mut [u8]) -> u64
 {
     let a = machine::open(rights);
     let s = a.session;
-    let refusal = a.refusal;
-    let stored = layout::put_session(session, s);
-    result(open_refusal(refusal, stored), 0, 0)
+    let v = a.verdict;
+    let stored = machine_session_bytes::put_session(session, s);
+    result(opening_verdict(v, stored), 0, 0)
 }
 
 // One command.
@@ -88,29 +95,49 @@ pub extern "C" fn malquindo_command(
 ) -> u64
     ensures { λ r. ⌜ calledAs r (now (image .exit)) (now (session .exit)) (now (response .exit)) ≡ called (now (image .entry)) (now (session .entry)) (now (command .entry)) (now (response .entry)) ⌝ }
 {
-    let a = machine::command(image, layout::session_of(session), command, response);
-    let refusal = a.refusal;
+    if !machine_session_bytes::is_session(session) {
+        return result(machine_session::judge(image, false, response.len()), 0, 0);
+    }
+    let a = machine::command(
+        image,
+        machine_session_bytes::session_in(session),
+        command,
+        response,
+    );
+    let v = a.verdict;
     let s = a.session;
     keep(session, a.status, s);
-    result(refusal, a.length, a.status)
+    result(v, a.length, a.status)
 }
 
-// The number of a move's refusal or the new image's length, in one.
+// The number of a move's refusal.
+fn move_refusal_number(r: MoveRefusal) -> u64
+    ensures { λ n. ⌜ (n ≡ moveRefusalNumber r) × (n ≤ 13) ⌝ }
+{
+    match r {
+        MoveRefusal::BadImage => 2,
+        MoveRefusal::BadList => 10,
+        MoveRefusal::MissingKind => 11,
+        MoveRefusal::SmallRoom => 12,
+        MoveRefusal::ShortTarget => 13,
+    }
+}
+
+// That number or the new image's length, in one.
 fn move_result(m: Moved) -> u64
-    requires { ⌜ Numbered m ⌝ }
     ensures { λ r. ⌜ r ≡ moveResult m ⌝ }
 {
     match m {
         Moved::Image(n) => n as u64,
-        Moved::Refused(w) => w as u64 * 4294967296,
+        Moved::Refused(w) => move_refusal_number(w) * 4294967296,
     }
 }
 
-// Carries a card to other rooms, into a target of its own.
+// Moves a card to other rooms, into a target of its own.
 #[no_mangle]
 pub extern "C" fn malquindo_move(old: &[u8], list: &[u8], target: &mut [u8]) -> u64
-    ensures { λ r. ⌜ (r ≡ moveResult (carry (now (old .entry)) (now (list .entry)) (length (now (target .entry))))) × (now (target .exit) ≡ carryInto (now (old .entry)) (now (list .entry)) (now (target .entry))) ⌝ }
+    ensures { λ r. ⌜ (r ≡ moveResult (moveCard (now (old .entry)) (now (list .entry)) (length (now (target .entry))))) × (now (target .exit) ≡ moveCardInto (now (old .entry)) (now (list .entry)) (now (target .entry))) ⌝ }
 {
-    let m = moving::carry(old, list, target);
+    let m = store_move::move_card(old, list, target);
     move_result(m)
 }

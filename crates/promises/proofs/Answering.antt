@@ -1,25 +1,28 @@
--- The data of an answer, and when a call is answered 9000.
+-- The data of an answer, and what an accepted call is. Read ../specs/Promises.antt before. Exports `data-said`, `step-accepted`,
+-- `accepted-room`, `accepted-facts`, `status-accepted`.
 use Prim.Native.Nat.{ℕ, _+_, _-_, _≤_}
-use mathlib.Core.Path.{_≡_, refl, sym, ap, ap₂, _∙_}
+use mathlib.Core.Path.{_≡_, refl, sym, ap, ap₂, subst, _∙_}
 use mathlib.Core.Bool.{true}
 use mathlib.Core.List.{List, _++_}
 use native.Mathlib.Omega.{arith}
 use lib.ListN.{length, take, length-append}
 use lib.Dec.{ltb}
 use lib.Seq.{sets, take-take, take-append-seam}
-use Rattle.base.proofs.Runs.{put-yes, part-sets}
-use Rattle.base.proofs.Cases.{pick-ind}
-use Rattle.store.specs.Image.{wellFormed}
-use Rattle.session.specs.Session.{fits}
-use Rattle.session.specs.Refusals.{numberOf, refusal}
-use Rattle.session.specs.declared.Session.{Session}
-use Rattle.session.specs.declared.Refusal.{Refusal}
-use Rattle.session.specs.declared.Refusal.the-variants.{Taken, ShortBuffer, BadImage, BadRights, BadSession}
-use Rattle.commands.specs.Decide.{decide, dataOf}
-use Rattle.effects.specs.Outcome.{word, says}
+use Rattle.base.proofs.Runs.{put-accepted, part-sets}
+use Rattle.base.proofs.Cases.{ifElse-ind}
+use Rattle.store_image.specs.Image.{wellFormed}
+use Rattle.machine_session.specs.Session.{sessionFits}
+use Rattle.machine_session.specs.Verdict.{refusalNumber, verdictNumber, verdict}
+use Rattle.machine_session.specs.declared.Session.{Session}
+use Rattle.machine_session.specs.declared.Refusal.{Refusal}
+use Rattle.machine_session.specs.declared.Refusal.the-variants.{ShortBuffer, BadImage, BadRights, BadSession}
+use Rattle.machine_session.specs.declared.Verdict.{Verdict}
+use Rattle.machine_session.specs.declared.Verdict.the-variants.{Accepted, Refused}
+use Rattle.machine_dispatch.specs.Decide.{decide, dataOf}
+use Rattle.machine_answer.specs.Outcome.{word, says}
 use Rattle.machine.specs.Effects.{done}
-use Rattle.machine.specs.Step.{taken, step}
-use Rattle.machine.proofs.Carrying.{Known, known}
+use Rattle.machine.specs.Step.{verdictOn, stepBy, step}
+use Rattle.machine.proofs.Accepting.{Known, verdict-accepted}
 use Rattle.promises.specs.Promises.{dataIn}
 
 -- the data stands before the word, in a buffer that takes both
@@ -29,46 +32,35 @@ data-said w dat s img buf h r =
     let vs : List ℕ = dat ++ word w in
     let n : length vs ≡ length dat + 2 = length-append dat (word w) in
     let m : length dat + 2 - 2 ≡ length dat = omega arith in
-    ap₂ (λ (k : ℕ) (l : List ℕ). take k l) m (put-yes buf 0 vs (omega arith))
+    ap₂ (λ (k : ℕ) (l : List ℕ). take k l) m (put-accepted buf 0 vs (omega arith))
     ∙ sym (take-take (length dat) (length vs) (sets buf 0 vs) (omega arith))
     ∙ ap (take (length dat)) (part-sets buf 0 vs (omega arith))
     ∙ take-append-seam dat (word w)
 
--- a call that is taken
-pub step-taken : (img : List ℕ) (s : Session) (cmd buf : List ℕ) → refusal img s (length buf) ≡ Taken → step img s cmd buf ≡ done (decide img s cmd) img s (dataOf cmd) buf
-unfolding step taken
-step-taken img s cmd buf e = ap (λ (x : Refusal). taken x img s cmd buf) e
+-- an accepted call
+pub step-accepted : (img : List ℕ) (s : Session) (cmd buf : List ℕ) → verdictOn img s (length buf) ≡ Accepted → step img s cmd buf ≡ done (decide img s cmd) img s (dataOf cmd) buf
+unfolding step stepBy
+step-accepted img s cmd buf e = ap (λ (x : Verdict). stepBy x img s cmd buf) e
 
-pub taken-room : (img : List ℕ) (s : Session) (buf : List ℕ) → refusal img s (length buf) ≡ Taken → 2050 ≤ length buf
-unfolding numberOf
-taken-room img s buf e = go (refusal img s (length buf)) e (known img s (length buf))
-  where
-    go : (x : Refusal) → x ≡ Taken → Known img (length buf) x → 2050 ≤ length buf
-    go Taken e k = k .1
-    go ShortBuffer e k = absurd (omega (arith, ap numberOf e))
-    go BadImage e k = absurd (omega (arith, ap numberOf e))
-    go BadRights e k = absurd (omega (arith, ap numberOf e))
-    go BadSession e k = absurd (omega (arith, ap numberOf e))
+pub accepted-room : (img : List ℕ) (s : Session) (buf : List ℕ) → verdictOn img s (length buf) ≡ Accepted → 2050 ≤ length buf
+accepted-room img s buf e = subst (Known img (length buf)) e (verdict-accepted img (sessionFits img s) (length buf)) .1
 
-pub taken-well : (img : List ℕ) (s : Session) (n : ℕ) → refusal img s n ≡ Taken → (wellFormed img ≡ true) × (fits img s ≡ true)
-unfolding refusal numberOf
-taken-well img s n e =
-    let P : Refusal → Type 0 = λ x. x ≡ Taken → (wellFormed img ≡ true) × (fits img s ≡ true) in
-    pick-ind P (ltb n 2050)
-    (λ _ z. absurd (omega (arith, ap numberOf z)))
-    (λ _. pick-ind P (wellFormed img)
-    (λ w. pick-ind P (fits img s) (λ f z. (w, f)) (λ _ z. absurd (omega (arith, ap numberOf z))))
-    (λ _ z. absurd (omega (arith, ap numberOf z))))
+pub accepted-facts : (img : List ℕ) (s : Session) (n : ℕ) → verdictOn img s n ≡ Accepted → (wellFormed img ≡ true) × (sessionFits img s ≡ true)
+unfolding verdict verdictNumber refusalNumber
+accepted-facts img s n e =
+    let P : Verdict → Type 0 = λ x. x ≡ Accepted → (wellFormed img ≡ true) × (sessionFits img s ≡ true) in
+    ifElse-ind P (ltb n 2050)
+    (λ _ z. absurd (omega (arith, ap verdictNumber z)))
+    (λ _. ifElse-ind P (wellFormed img)
+    (λ w. ifElse-ind P (sessionFits img s) (λ f z. (w, f)) (λ _ z. absurd (omega (arith, ap verdictNumber z))))
+    (λ _ z. absurd (omega (arith, ap verdictNumber z))))
     e
 
--- a call answered 9000 is taken
-pub status-taken : (img : List ℕ) (s : Session) (cmd buf : List ℕ) → step img s cmd buf .answer .status ≡ 0x9000 → refusal img s (length buf) ≡ Taken
-unfolding step taken
-status-taken img s cmd buf e = go (refusal img s (length buf)) e
+-- a call answered 9000 is accepted
+pub status-accepted : (img : List ℕ) (s : Session) (cmd buf : List ℕ) → step img s cmd buf .answer .status ≡ 0x9000 → verdictOn img s (length buf) ≡ Accepted
+unfolding step stepBy
+status-accepted img s cmd buf e = go (verdictOn img s (length buf)) e
   where
-    go : (x : Refusal) → taken x img s cmd buf .answer .status ≡ 0x9000 → x ≡ Taken
-    go Taken e = refl
-    go ShortBuffer e = absurd (omega (arith, e))
-    go BadImage e = absurd (omega (arith, e))
-    go BadRights e = absurd (omega (arith, e))
-    go BadSession e = absurd (omega (arith, e))
+    go : (x : Verdict) → stepBy x img s cmd buf .answer .status ≡ 0x9000 → x ≡ Accepted
+    go Accepted e = refl
+    go (Refused r) e = absurd (omega (arith, e))

@@ -6,98 +6,126 @@ use mathlib.Core.Logic.{⊎-elim}
 use mathlib.Core.List.{List, [], _∷_, _++_, List·Memᴰ, List·Memᴰ·head, List·Memᴰ·tail, List·Memᴰ·not-nil, List·Memᴰ·cases-cons}
 use native.Mathlib.Omega.{arith}
 use lib.ListN.{length, take, drop, length-append}
-use lib.Dec.{eqb, leb}
+use lib.Dec.{eqb, ltb}
 use borrow.Author.Tests.{eqb-true, eq-eqb, ne-eqb}
-use Rattle.base.specs.Choice.{pick}
-use Rattle.base.specs.Bytes.{put, fits}
-use Rattle.base.proofs.Cases.{by-cases, pick-ind}
-use Rattle.base.proofs.Runs.{length-put, put-no, fits-yes, fits-no}
-use Rattle.records.specs.Body.{nth}
-use Rattle.store.specs.Image.{has, wellFormed, recordsOf}
-use Rattle.objects.specs.Encoding.{Bytes as AllBytes}
-use Rattle.rights.proofs.Laws.{effective-length}
-use Rattle.session.specs.Session.{opened}
-use Rattle.session.specs.Refusals.{numberOf, openRefusal}
-use Rattle.session.specs.declared.Refusal.{Refusal}
-use Rattle.session.specs.declared.Refusal.the-variants.{Taken, ShortBuffer, BadImage, BadRights, BadSession}
-use Rattle.session.specs.declared.Place.{Place}
-use Rattle.session.specs.declared.Place.the-variants.{Nothing, File as OnFile, Record as OnRecord}
-use Rattle.session.specs.declared.Session.{Session}
-use Rattle.apdu.specs.Shape.{shapeOf}
-use Rattle.effects.specs.Outcome.{Outcome}
+use Rattle.base.specs.Choice.{ifElse}
+use Rattle.base.specs.Bytes.{put, putFits, AllBytes}
+use Rattle.base.proofs.Cases.{by-cases, ifElse-ind}
+use Rattle.base.proofs.Runs.{length-put, put-refused, putFits-accepted, putFits-refused}
+use Rattle.store_records.specs.Body.{nth}
+use Rattle.store_image.specs.Image.{has, wellFormed, recordsOf}
+use Rattle.machine_rights.proofs.Laws.{effective-length}
+use Rattle.machine_session.specs.Session.{opened}
+use Rattle.machine_session.specs.Verdict.{refusalNumber, verdictNumber, verdict, openVerdict}
+use Rattle.machine_session.specs.declared.Refusal.{Refusal}
+use Rattle.machine_session.specs.declared.Refusal.the-variants.{ShortBuffer, BadImage, BadRights, BadSession}
+use Rattle.machine_session.specs.declared.Verdict.{Verdict}
+use Rattle.machine_session.specs.declared.Verdict.the-variants.{Accepted, Refused}
+use Rattle.machine_session.specs.declared.Place.{Place}
+use Rattle.machine_session.specs.declared.Place.the-variants.{Nowhere, OnFile, OnRecord}
+use Rattle.machine_session.specs.declared.Session.{Session}
+use Rattle.machine_apdu.specs.Shape.{shapeOf}
+use Rattle.machine_answer.specs.Outcome.{Outcome}
 use Rattle.machine.specs.Step.{step, opening}
-use Rattle.layout.specs.Layout.{placeBytes, sessionBytes, sessionOf}
-use Rattle.malquindo.specs.Face.{resultOf, openRefused, openResult, openSession, sessionAfter, called, moveResult}
-use Rattle.rooms.specs.Rooms.{lays}
-use Rattle.moving.specs.Moving.{moved, lists, roomy, carry, carryInto, unless, Numbered}
-use Rattle.moving.specs.declared.Moved.{Moved}
-use Rattle.moving.specs.declared.Moved.the-variants.{Image, Refused}
-use Rattle.moving.proofs.Carrying.{numbered}
-use Rattle.promises.specs.Calls.{Call, Open, Command, Move, goesOn, next, after, addedBy, added, additions, history}
-use Rattle.promises.specs.Promises.{Whole, Kept, Answered, Reads, Searching, Names, Carried}
-use Rattle.promises.specs.Linked.{refusalIn, lengthIn, statusIn, movedIn, refusalBy, seen, CCall, OpenC, CommandC, MoveC, goesOnC, nextC, afterC, addedC, additionsC, historyC, C-sees, C-says-no, C-gets-word, C-holds, C-number-kept, C-reads-history, C-leaves-none-out, C-opens, MovedC, C-moves}
-use Rattle.promises.proofs.Keeping.{put-rest, step-kept}
+use Rattle.machine_session_bytes.specs.Layout.{placeBytes, sessionBytes, isSession, sessionIn}
+use Rattle.malquindo.specs.Face.{resultOf, openingVerdict, openResult, openSession, sessionAfter, Called, calledAs, calledBy, malformed, called, moveResult}
+use Rattle.store_move.specs.Moving.{moveRefusalNumber, moveCard, moveCardInto, Numbered}
+use Rattle.store_move.specs.declared.Moved.{Moved}
+use Rattle.store_move.specs.declared.Moved.the-variants.{Image, Refused as MoveRefused}
+use Rattle.store_move.proofs.Moves.{moveRefusalNumber-listed, moveRefusalNumber-some, moveCard-numbered}
+use Rattle.promises.specs.Calls.{Call, Open, Command, Move, imageAfterMove, afterCall, after, addedBy, added, additions, history}
+use Rattle.promises.specs.Promises.{Whole, Kept, Answered, Reads, Searching, Names, MovedCard}
+use Rattle.promises.specs.Linked.{refusalIn, lengthIn, statusIn, movedIn, verdictBy, seen, CCall, OpenC, CommandC, MoveC, goesOnC, nextC, afterC, addedC, additionsC, historyC, C-sees, MalformedC, C-malformed, KeptC, C-says-no, C-gets-word, C-holds, C-number-kept, C-reads-history, C-leaves-none-out, C-opens, MovedC, C-moves}
+use Rattle.promises.proofs.Keeping.{put-rest, step-kept, verdict-not-rights}
 use Rattle.promises.proofs.Saying.{gets-word, step-status}
-use Rattle.promises.proofs.Growing.{calls-held, number-kept}
+use Rattle.promises.proofs.Growing.{refused-none, calls-held, number-kept}
 use Rattle.promises.proofs.Reading.{reads-history}
 use Rattle.promises.proofs.Searching.{leaves-none-out}
-use Rattle.promises.proofs.Linking.{storable, session-bytes, opening-bytes, result-whole}
-use Rattle.promises.proofs.Moving.{carries}
-use Rattle.carried.proofs.Laws.{refused-target}
+use Rattle.promises.proofs.Linking.{storable, called-session, called-malformed, session-bytes, opening-bytes, result-whole}
+use Rattle.promises.proofs.Moving.{move-done}
+use Rattle.store_move_laws.proofs.Laws.{refused-target}
 
 -- ---- the numbers of a result
 
-number-most : (x : Refusal) → numberOf x ≤ 4
-unfolding numberOf
-number-most Taken = omega arith
-number-most ShortBuffer = omega arith
-number-most BadImage = omega arith
-number-most BadRights = omega arith
-number-most BadSession = omega arith
+verdict-back : (x : Verdict) → verdictBy (verdictNumber x) ≡ x
+unfolding verdictBy verdictNumber refusalNumber
+verdict-back Accepted = refl
+verdict-back (Refused ShortBuffer) = refl
+verdict-back (Refused BadImage) = refl
+verdict-back (Refused BadRights) = refl
+verdict-back (Refused BadSession) = refl
 
-refusal-back : (x : Refusal) → refusalBy (numberOf x) ≡ x
-unfolding refusalBy numberOf
-refusal-back Taken = refl
-refusal-back ShortBuffer = refl
-refusal-back BadImage = refl
-refusal-back BadRights = refl
-refusal-back BadSession = refl
+-- ---- bytes that are no session
 
--- the status needs no bound on the command's bytes
-status-seen : (img ses cmd buf : List ℕ) → statusIn (called img ses cmd buf .result) ≡ step img (sessionOf ses) cmd buf .answer .status
-unfolding called resultOf statusIn
-status-seen img ses cmd buf =
-    let a = step img (sessionOf ses) cmd buf .answer in
-    let h : a .status ≤ 0x9000 = step-status img (sessionOf ses) cmd buf in
-    omega (arith, h)
+-- a verdict on them is a refusal of a command
+number-refused : (img : List ℕ) (n : ℕ) → List·Memᴰ (verdictNumber (verdict img false n)) (1 ∷ 2 ∷ 4 ∷ [])
+unfolding verdict verdictNumber refusalNumber
+number-refused img n =
+    let P : Verdict → Type 0 = λ x. List·Memᴰ (verdictNumber x) (1 ∷ 2 ∷ 4 ∷ []) in
+    ifElse-ind P (ltb n 2050)
+    (λ _. List·Memᴰ·head refl)
+    (λ _. ifElse-ind P (wellFormed img) (λ _. List·Memᴰ·tail (List·Memᴰ·tail (List·Memᴰ·head refl))) (λ _. List·Memᴰ·tail (List·Memᴰ·head refl)))
 
-module _ (img ses cmd buf : List ℕ) (b : AllBytes cmd) where
-  whole : Whole (called img ses cmd buf .result) (step img (sessionOf ses) cmd buf .answer)
-  whole = result-whole img ses cmd buf b
+refused-result : (v : Verdict) → (refusalIn (resultOf v 0 0) ≡ verdictNumber v) × (lengthIn (resultOf v 0 0) ≡ 0) × (statusIn (resultOf v 0 0) ≡ 0)
+unfolding resultOf refusalIn lengthIn statusIn
+refused-result v = (omega arith, omega arith, omega arith)
 
-  refusal-seen : refusalIn (called img ses cmd buf .result) ≡ numberOf (step img (sessionOf ses) cmd buf .answer .refusal)
-  unfolding refusalIn
-  refusal-seen = omega (arith, whole .sum, whole .length-small, whole .status-small)
+pub c-malformed : C-malformed
+c-malformed img ses cmd buf n =
+    subst (MalformedC img ses buf) (sym (called-malformed img ses cmd buf n))
+    (unfold malformed in
+    let v = verdict img false (length buf) in
+    let r = refused-result v in
+    record {
+      number = subst (λ (k : ℕ). List·Memᴰ k (1 ∷ 2 ∷ 4 ∷ [])) (sym (r .0)) (number-refused img (length buf));
+      nothing = (r .1, r .2);
+      kept = (refl, refl, refl);
+    })
 
-  length-seen : lengthIn (called img ses cmd buf .result) ≡ step img (sessionOf ses) cmd buf .answer .length
-  unfolding lengthIn
-  length-seen = omega (arith, whole .sum, whole .length-small, whole .status-small)
+-- ---- bytes that are a session
+
+module _ (img ses cmd buf : List ℕ) (y : isSession ses ≡ true) where
+  -- the status needs no bound on the command's bytes
+  status-seen : statusIn (called img ses cmd buf .result) ≡ step img (sessionIn ses) cmd buf .answer .status
+  status-seen =
+      let e = ap (λ (c : Called). statusIn (c .result)) (called-session img ses cmd buf y) in
+      let h = step-status img (sessionIn ses) cmd buf in
+      e ∙ (unfold resultOf statusIn in omega (arith, h))
+
+  module _ (b : AllBytes cmd) where
+    whole : Whole (called img ses cmd buf .result) (step img (sessionIn ses) cmd buf .answer)
+    whole = result-whole img ses cmd buf b y
+
+    refusal-seen : refusalIn (called img ses cmd buf .result) ≡ verdictNumber (step img (sessionIn ses) cmd buf .answer .verdict)
+    unfolding refusalIn
+    refusal-seen = omega (arith, whole .sum, whole .length-small, whole .status-small)
+
+    length-seen : lengthIn (called img ses cmd buf .result) ≡ step img (sessionIn ses) cmd buf .answer .length
+    unfolding lengthIn
+    length-seen = omega (arith, whole .sum, whole .length-small, whole .status-small)
+
+-- what a caller sees is known by its parts
+seen-is : (c : Called) (o : Outcome) → verdictBy (refusalIn (c .result)) ≡ o .answer .verdict → lengthIn (c .result) ≡ o .answer .length → statusIn (c .result) ≡ o .answer .status
+    → sessionIn (c .session) ≡ o .answer .session → c .image ≡ o .image → c .response ≡ o .buffer → seen c ≡ o
+unfolding seen
+seen-is c o e l w t i b = λ j. record { answer = record { verdict = e j; length = l j; status = w j; session = t j }; image = i j; buffer = b j }
 
 pub c-sees : C-sees
-unfolding seen called
-c-sees img ses cmd buf b =
-    let e = ap refusalBy (refusal-seen img ses cmd buf b) ∙ refusal-back (step img (sessionOf ses) cmd buf .answer .refusal) in
-    let l = length-seen img ses cmd buf b in
-    let w = status-seen img ses cmd buf in
-    let t = session-bytes img ses cmd buf in
-    let o = step img (sessionOf ses) cmd buf in
-    λ i. record { answer = record { refusal = e i; length = l i; status = w i; session = t i }; image = o .image; buffer = o .buffer }
+c-sees img ses cmd buf b y =
+    let o = step img (sessionIn ses) cmd buf in
+    seen-is (called img ses cmd buf) o
+    (ap verdictBy (refusal-seen img ses cmd buf y b) ∙ verdict-back (o .answer .verdict))
+    (length-seen img ses cmd buf y b)
+    (status-seen img ses cmd buf y)
+    (session-bytes img ses cmd buf y .1)
+    (ap (λ (c : Called). c .image) (called-session img ses cmd buf y))
+    (ap (λ (c : Called). c .response) (called-session img ses cmd buf y))
 
 -- ---- a session's bytes
 
 place-size : (a : ℕ) (p : Place) → length (placeBytes a p) ≡ 5
 unfolding placeBytes
-place-size a Nothing = refl
+place-size a Nowhere = refl
 place-size a (OnFile i) = refl
 place-size a (OnRecord i n) = refl
 
@@ -116,54 +144,87 @@ session-size s e =
 
 -- ---- 1
 
-pub c-says-no : C-says-no
-unfolding called sessionAfter
-c-says-no img ses cmd buf b =
-    let a = step img (sessionOf ses) cmd buf .answer in
-    let w = status-seen img ses cmd buf in
+-- for a session
+session-says-no : (img ses cmd buf : List ℕ) → AllBytes cmd → isSession ses ≡ true → KeptC img ses buf (called img ses cmd buf)
+session-says-no img ses cmd buf b y =
+    let o = step img (sessionIn ses) cmd buf in
+    let a = o .answer in
+    let w = status-seen img ses cmd buf y in
+    let e : called img ses cmd buf .session ≡ sessionAfter ses (a .status) (a .session) = ap (λ (c : Called). c .session) (called-session img ses cmd buf y) in
     record {
-      kept = subst (Kept img (sessionOf ses) buf) (sym (c-sees img ses cmd buf b)) (step-kept img (sessionOf ses) cmd buf);
-      session-kept = λ n. ap (λ (x : Bool). pick x (put ses 0 (sessionBytes (a .session))) ses) (ne-eqb (a .status) 0x9000 (λ e. n (w ∙ e)));
-      session-rest-kept = by-cases (eqb (a .status) 0x9000)
-          (λ y. let l = session-size (a .session) (storable img ses cmd buf (eqb-true _ _ y) .biometrics) in
-          simp y (subst (λ (n : ℕ). drop n (put ses 0 (sessionBytes (a .session))) ≡ drop n ses) l (put-rest ses (sessionBytes (a .session)))))
-          (λ n. simp n);
-      session-size-kept = pick-ind (λ (l : List ℕ). length l ≡ length ses) (eqb (a .status) 0x9000) (λ e. length-put ses 0 (sessionBytes (a .session))) (λ e. refl);
+      kept = subst (Kept img (sessionIn ses) buf) (sym (c-sees img ses cmd buf b y)) (step-kept img (sessionIn ses) cmd buf);
+      session-kept = λ n. e ∙ (unfold sessionAfter in ap (λ (x : Bool). ifElse x (put ses 0 (sessionBytes (a .session))) ses) (ne-eqb (a .status) 0x9000 (λ z. n (w ∙ z))));
+      session-rest-kept = ap (drop 25) e ∙ (unfold sessionAfter in by-cases (eqb (a .status) 0x9000)
+          (λ t. let l = session-size (a .session) (storable img ses cmd buf (eqb-true _ _ t) .biometrics) in
+          simp t (subst (λ (n : ℕ). drop n (put ses 0 (sessionBytes (a .session))) ≡ drop n ses) l (put-rest ses (sessionBytes (a .session)))))
+          (λ n. simp n));
+      session-size-kept = ap length e ∙ (unfold sessionAfter in
+          ifElse-ind (λ (l : List ℕ). length l ≡ length ses) (eqb (a .status) 0x9000) (λ t. length-put ses 0 (sessionBytes (a .session))) (λ t. refl));
     }
+
+-- 1, 2 and 4 are numbers of a command's refusals
+among-numbers : (n : ℕ) → List·Memᴰ n (1 ∷ 2 ∷ 4 ∷ []) → List·Memᴰ n (0 ∷ 1 ∷ 2 ∷ 4 ∷ [])
+among-numbers n m = List·Memᴰ·tail m
+
+-- what a caller sees of them
+malformed-kept : (img ses buf : List ℕ) → Kept img (sessionIn ses) buf (seen (malformed img ses buf))
+unfolding seen malformed
+malformed-kept img ses buf =
+    let v = verdict img false (length buf) in
+    let r = refused-result v in
+    let e : verdictBy (refusalIn (resultOf v 0 0)) ≡ v = ap verdictBy (r .0) ∙ verdict-back v in
+    record {
+      image-kept = λ _. refl;
+      session-kept = λ _. refl;
+      rest-kept = refl;
+      size-kept = refl;
+      number = subst (λ (x : Verdict). List·Memᴰ (verdictNumber x) (0 ∷ 1 ∷ 2 ∷ 4 ∷ [])) (sym e) (among-numbers _ (number-refused img (length buf)));
+      refused = λ _. (r .1, r .2, refl, refl, refl);
+    }
+
+-- for bytes that are none
+malformed-says-no : (img ses cmd buf : List ℕ) → isSession ses ≡ false → KeptC img ses buf (called img ses cmd buf)
+malformed-says-no img ses cmd buf n =
+    subst (KeptC img ses buf) (sym (called-malformed img ses cmd buf n))
+    (unfold malformed in
+    record {
+      kept = malformed-kept img ses buf;
+      session-kept = λ _. refl;
+      session-rest-kept = refl;
+      session-size-kept = refl;
+    })
+
+pub c-says-no : C-says-no
+c-says-no img ses cmd buf b =
+    by-cases (isSession ses) (λ y. session-says-no img ses cmd buf b y) (λ n. malformed-says-no img ses cmd buf n)
+
+-- bytes that are no session are refused
+accepted-session : (img ses cmd buf : List ℕ) → refusalIn (called img ses cmd buf .result) ≡ 0 → isSession ses ≡ true
+accepted-session img ses cmd buf e =
+    by-cases (isSession ses)
+    (λ y. y)
+    (λ n. absurd (some _ (c-malformed img ses cmd buf n .number) e))
+  where
+    some : (k : ℕ) → List·Memᴰ k (1 ∷ 2 ∷ 4 ∷ []) → k ≡ 0 → ⊥
+    some k m z =
+        ⊎-elim (λ e. omega (arith, e, z)) (λ m.
+        ⊎-elim (λ e. omega (arith, e, z)) (λ m.
+        ⊎-elim (λ e. omega (arith, e, z)) (λ m. List·Memᴰ·not-nil m)
+        (List·Memᴰ·cases-cons m)) (List·Memᴰ·cases-cons m)) (List·Memᴰ·cases-cons m)
 
 pub c-gets-word : C-gets-word
 c-gets-word img ses cmd buf b e =
-    subst Answered (sym (c-sees img ses cmd buf b)) (gets-word img (sessionOf ses) cmd buf b (sym (refusal-seen img ses cmd buf b) ∙ e))
+    let y = accepted-session img ses cmd buf e in
+    subst Answered (sym (c-sees img ses cmd buf b y)) (gets-word img (sessionIn ses) cmd buf b (sym (refusal-seen img ses cmd buf y b) ∙ e))
+
+-- and have status 0
+done-session : (img ses cmd buf : List ℕ) → statusIn (called img ses cmd buf .result) ≡ 0x9000 → isSession ses ≡ true
+done-session img ses cmd buf e =
+    by-cases (isSession ses)
+    (λ y. y)
+    (λ n. absurd (omega (arith, c-malformed img ses cmd buf n .nothing .1, e)))
 
 -- ---- a move
-
--- which numbers a move is refused with
-abbrev Refuses : Moved → Type 0
-Refuses (Refused w) = List·Memᴰ w (2 ∷ 10 ∷ 11 ∷ 12 ∷ 13 ∷ [])
-Refuses (Image n) = Unit {0}
-
-unless-either : (P : Moved → Type 0) (t : Bool) (w : ℕ) (m : Moved) → P (Refused w) → P m → P (unless t w m)
-unless-either P true w m a b = b
-unless-either P false w m a b = a
-
-refuses : (old list : List ℕ) (n : ℕ) → Refuses (carry old list n)
-unfolding carry
-refuses old list n =
-    unless-either Refuses (wellFormed old) 2 _ (List·Memᴰ·head refl)
-    (unless-either Refuses (lays list) 10 _ (List·Memᴰ·tail (List·Memᴰ·head refl))
-    (unless-either Refuses (lists old list) 11 _ (List·Memᴰ·tail (List·Memᴰ·tail (List·Memᴰ·head refl)))
-    (unless-either Refuses (roomy old list) 12 _ (List·Memᴰ·tail (List·Memᴰ·tail (List·Memᴰ·tail (List·Memᴰ·head refl))))
-    (unless-either Refuses (leb (length (moved old list)) n) 13 _ (List·Memᴰ·tail (List·Memᴰ·tail (List·Memᴰ·tail (List·Memᴰ·tail (List·Memᴰ·head refl))))) tt))))
-
--- so none is 0
-refuses-some : (w : ℕ) → Refuses (Refused w) → 1 ≤ w
-refuses-some w m =
-    ⊎-elim (λ e. omega (arith, e)) (λ m.
-    ⊎-elim (λ e. omega (arith, e)) (λ m.
-    ⊎-elim (λ e. omega (arith, e)) (λ m.
-    ⊎-elim (λ e. omega (arith, e)) (λ m.
-    ⊎-elim (λ e. omega (arith, e)) (λ m. absurd (List·Memᴰ·not-nil m))
-    (List·Memᴰ·cases-cons m)) (List·Memᴰ·cases-cons m)) (List·Memᴰ·cases-cons m)) (List·Memᴰ·cases-cons m)) (List·Memᴰ·cases-cons m)
 
 -- the two numbers of a result
 image-refusal : (n : ℕ) → n ≤ 262144 → refusalIn n ≡ 0
@@ -183,30 +244,31 @@ unfolding movedIn
 refused-moved w = omega arith
 
 pub c-moves : C-moves
-c-moves old list t = go (carry old list (length t)) refl (numbered old list (length t)) (refuses old list (length t))
+c-moves old list t = go (moveCard old list (length t)) refl (moveCard-numbered old list (length t))
   where
-    go : (m : Moved) → carry old list (length t) ≡ m → Numbered m → Refuses m → MovedC old list t (moveResult m)
-    go (Image n) e h r =
+    go : (m : Moved) → moveCard old list (length t) ≡ m → Numbered m → MovedC old list t (moveResult m)
+    go (Image n) e h =
         let z = image-refusal n h in
         let l = image-moved n h in
         record {
           number = List·Memᴰ·head z;
           refused = λ p. absurd (omega (arith, z, p));
-          carried = λ p. subst (λ (k : ℕ). Carried old list t k (take k (carryInto old list t))) (sym l) (carries old list t n e);
+          image = λ p. subst (λ (k : ℕ). MovedCard old list t k (take k (moveCardInto old list t))) (sym l) (move-done old list t n e);
         }
-    go (Refused w) e h r =
-        let z = refused-refusal w in
+    go (MoveRefused w) e h =
+        let z = refused-refusal (moveRefusalNumber w) in
         record {
-          number = subst (λ (k : ℕ). List·Memᴰ k (0 ∷ 2 ∷ 10 ∷ 11 ∷ 12 ∷ 13 ∷ [])) (sym z) (List·Memᴰ·tail r);
-          refused = λ p. (refused-moved w, refused-target old list t w e);
-          carried = λ p. absurd (omega (arith, z, p, refuses-some w r));
+          number = subst (λ (k : ℕ). List·Memᴰ k (0 ∷ 2 ∷ 10 ∷ 11 ∷ 12 ∷ 13 ∷ [])) (sym z) (List·Memᴰ·tail (moveRefusalNumber-listed w));
+          refused = λ p. (refused-moved (moveRefusalNumber w), refused-target old list t w e);
+          image = λ p. absurd (omega (arith, z, p, moveRefusalNumber-some w));
         }
 
 -- ---- 2. the calls that the bytes mean
 
+-- a command with bytes that are no session does what an opening does: nothing to the image
 meaning : CCall → Call
 meaning (OpenC rights ses) = Open rights
-meaning (CommandC ses cmd buf) = Command (sessionOf ses) cmd buf
+meaning (CommandC ses cmd buf) = ifElse (isSession ses) (Command (sessionIn ses) cmd buf) (Open [])
 meaning (MoveC list t) = Move list t
 
 meanings : List CCall → List Call
@@ -218,37 +280,43 @@ unfolding meanings
 meanings-append [] ds = refl
 meanings-append (c ∷ cs) ds = ap (λ (l : List Call). meaning c ∷ l) (meanings-append cs ds)
 
-goes-same : (m : Moved) (t img : List ℕ) → Numbered m → Refuses m → goesOnC (moveResult m) t img ≡ goesOn m t img
+goes-same : (m : Moved) (t img : List ℕ) → Numbered m → goesOnC (moveResult m) t img ≡ imageAfterMove m t img
 unfolding goesOnC
-goes-same (Image n) t img h r =
-    ap₂ (λ (b : Bool) (k : ℕ). pick b (take k t) img) (eq-eqb (refusalIn n) 0 (image-refusal n h)) (image-moved n h)
-goes-same (Refused w) t img h r =
-    ap (λ (b : Bool). pick b (take (movedIn (w * 4294967296)) t) img)
-    (ne-eqb (refusalIn (w * 4294967296)) 0 (λ e. omega (arith, e, refused-refusal w, refuses-some w r)))
+goes-same (Image n) t img h =
+    ap₂ (λ (b : Bool) (k : ℕ). ifElse b (take k t) img) (eq-eqb (refusalIn n) 0 (image-refusal n h)) (image-moved n h)
+goes-same (MoveRefused w) t img h =
+    ap (λ (b : Bool). ifElse b (take (movedIn (moveRefusalNumber w * 4294967296)) t) img)
+    (ne-eqb (refusalIn (moveRefusalNumber w * 4294967296)) 0 (λ e. omega (arith, e, refused-refusal (moveRefusalNumber w), moveRefusalNumber-some w)))
 
-next-same : (img : List ℕ) (c : CCall) → nextC img c ≡ next img (meaning c)
-unfolding nextC next meaning called
+next-same : (img : List ℕ) (c : CCall) → nextC img c ≡ afterCall img (meaning c)
+unfolding nextC afterCall meaning
 next-same img (OpenC rights ses) = refl
-next-same img (CommandC ses cmd buf) = refl
-next-same img (MoveC list t) = goes-same (carry img list (length t)) (carryInto img list t) img (numbered img list (length t)) (refuses img list (length t))
+next-same img (CommandC ses cmd buf) =
+    by-cases (isSession ses)
+    (λ y. simp y (ap (λ (c : Called). c .image) (called-session img ses cmd buf y)))
+    (λ n. simp n (c-malformed img ses cmd buf n .kept .0))
+next-same img (MoveC list t) = goes-same (moveCard img list (length t)) (moveCardInto img list t) img (moveCard-numbered img list (length t))
 
 added-same : (k : ℕ) (img : List ℕ) (c : CCall) → addedC k img c ≡ added k img (meaning c)
 unfolding addedC added meaning
 added-same k img (OpenC rights ses) = refl
-added-same k img (CommandC ses cmd buf) = ap (λ (w : ℕ). addedBy k img (sessionOf ses) cmd w (shapeOf cmd)) (status-seen img ses cmd buf)
+added-same k img (CommandC ses cmd buf) =
+    by-cases (isSession ses)
+    (λ y. simp y (ap (λ (w : ℕ). addedBy k img (sessionIn ses) cmd w (shapeOf cmd)) (status-seen img ses cmd buf y)))
+    (λ n. simp n (ap (λ (w : ℕ). addedBy k img (sessionIn ses) cmd w (shapeOf cmd)) (c-malformed img ses cmd buf n .nothing .1) ∙ refused-none img (sessionIn ses) cmd (shapeOf cmd) k))
 added-same k img (MoveC list t) = refl
 
 after-same : (img : List ℕ) (cs : List CCall) → afterC img cs ≡ after img (meanings cs)
 unfolding afterC after meanings
 after-same img [] = refl
-after-same img (c ∷ cs) = ap (λ (l : List ℕ). afterC l cs) (next-same img c) ∙ after-same (next img (meaning c)) cs
+after-same img (c ∷ cs) = ap (λ (l : List ℕ). afterC l cs) (next-same img c) ∙ after-same (afterCall img (meaning c)) cs
 
 additions-same : (k : ℕ) (img : List ℕ) (cs : List CCall) → additionsC k img cs ≡ additions k img (meanings cs)
 unfolding additionsC additions meanings
 additions-same k img [] = refl
 additions-same k img (c ∷ cs) =
     ap₂ (λ (a b : List (List ℕ)). a ++ b) (added-same k img c)
-    (ap (λ (l : List ℕ). additionsC k l cs) (next-same img c) ∙ additions-same k (next img (meaning c)) cs)
+    (ap (λ (l : List ℕ). additionsC k l cs) (next-same img c) ∙ additions-same k (afterCall img (meaning c)) cs)
 
 history-same : (k : ℕ) (img : List ℕ) (cs : List CCall) → historyC k img cs ≡ history k img (meanings cs)
 unfolding historyC history
@@ -274,29 +342,30 @@ c-number-kept img cs ds k n o b h =
 
 -- ---- 3. a command after calls, read from what the caller has
 
-module _ (img : List ℕ) (cs : List CCall) (ses cmd buf : List ℕ) (b : AllBytes cmd) where
+module _ (img : List ℕ) (cs : List CCall) (ses cmd buf : List ℕ) (b : AllBytes cmd) (y : isSession ses ≡ true) where
   abbrev then-seen : Outcome
   then-seen = seen (called (afterC img cs) ses cmd buf)
 
-  seen-same : step (after img (meanings cs)) (sessionOf ses) cmd buf ≡ then-seen
-  seen-same = ap (λ (l : List ℕ). step l (sessionOf ses) cmd buf) (sym (after-same img cs)) ∙ sym (c-sees (afterC img cs) ses cmd buf b)
+  seen-same : step (after img (meanings cs)) (sessionIn ses) cmd buf ≡ then-seen
+  seen-same = ap (λ (l : List ℕ). step l (sessionIn ses) cmd buf) (sym (after-same img cs)) ∙ sym (c-sees (afterC img cs) ses cmd buf b y)
 
 pub c-reads-history : C-reads-history
 c-reads-history img cs ses cmd buf f o b e p w =
-    let s = sessionOf ses in
+    let s = sessionIn ses in
     let a = after-same img cs in
     let old = after img (meanings cs) in
-    let t : step old s cmd buf .answer .status ≡ 0x9000 = ap (λ (l : List ℕ). step l s cmd buf .answer .status) (sym a) ∙ sym (status-seen (afterC img cs) ses cmd buf) ∙ w in
+    let y = done-session (afterC img cs) ses cmd buf w in
+    let t : step old s cmd buf .answer .status ≡ 0x9000 = ap (λ (l : List ℕ). step l s cmd buf .answer .status) (sym a) ∙ sym (status-seen (afterC img cs) ses cmd buf y) ∙ w in
     let h = reads-history img (meanings cs) s cmd buf f o e p t in
-    subst (λ (l : List ℕ). Reads l s f (λ k. historyC k img cs) (then-seen img cs ses cmd buf b)) (sym a)
-    (subst (Reads old s f (λ k. historyC k img cs)) (seen-same img cs ses cmd buf b)
+    subst (λ (l : List ℕ). Reads l s f (λ k. historyC k img cs) (then-seen img cs ses cmd buf b y)) (sym a)
+    (subst (Reads old s f (λ k. historyC k img cs)) (seen-same img cs ses cmd buf b y)
     (subst (λ (rs : ℕ → List (List ℕ)). Reads old s f rs (step old s cmd buf)) (λ i k. sym (history-same k img cs) i) h))
 
 pub c-leaves-none-out : C-leaves-none-out
-c-leaves-none-out img cs ses cmd buf f x r o b z =
-    let s = sessionOf ses in
+c-leaves-none-out img cs ses cmd buf f x r o b y z =
+    let s = sessionIn ses in
     let h = leaves-none-out img (meanings cs) s cmd buf f x r o (subst (λ (l : List ℕ). Searching l s cmd buf f x r) (after-same img cs) z) in
-    subst (Names (historyC (r .kind) img cs) x (f .ne)) (seen-same img cs ses cmd buf b)
+    subst (Names (historyC (r .kind) img cs) x (f .ne)) (seen-same img cs ses cmd buf b y)
     (subst (λ (rs : List (List ℕ)). Names rs x (f .ne) (step (after img (meanings cs)) s cmd buf)) (sym (history-same (r .kind) img cs)) h)
 
 -- ---- an opening
@@ -304,34 +373,35 @@ c-leaves-none-out img cs ses cmd buf f x r o b z =
 module _ (rights ses : List ℕ) where
   -- by whether there are 60 bytes of rights, and whether the session fits
   abbrev opens-by : Bool → Bool → ℕ
-  opens-by a b = resultOf (openRefused (pick a Taken BadRights) b) 0 0
+  opens-by a b = resultOf (openingVerdict (ifElse a Accepted (Refused BadRights)) b) 0 0
 
-  result-by : openResult rights ses ≡ opens-by (eqb (length rights) 60) (fits ses 0 (sessionBytes (opened rights)))
-  unfolding openResult opening openRefusal
+  result-by : openResult rights ses ≡ opens-by (eqb (length rights) 60) (putFits ses 0 (sessionBytes (opened rights)))
+  unfolding openResult opening openVerdict
   result-by = refl
 
   opened-size : length (sessionBytes (opened rights)) ≡ 25
   opened-size = session-size (opened rights) (unfold opened in effective-length rights)
 
-  room : 25 ≤ length ses → fits ses 0 (sessionBytes (opened rights)) ≡ true
-  room h = fits-yes ses 0 (sessionBytes (opened rights)) (omega (arith, h, opened-size))
+  room : 25 ≤ length ses → putFits ses 0 (sessionBytes (opened rights)) ≡ true
+  room h = putFits-accepted ses 0 (sessionBytes (opened rights)) (omega (arith, h, opened-size))
 
-  no-room : length ses < 25 → fits ses 0 (sessionBytes (opened rights)) ≡ false
-  no-room h = fits-no ses 0 (sessionBytes (opened rights)) (omega (arith, h, opened-size))
+  no-room : length ses < 25 → putFits ses 0 (sessionBytes (opened rights)) ≡ false
+  no-room h = putFits-refused ses 0 (sessionBytes (opened rights)) (omega (arith, h, opened-size))
 
   refused-both : (b : Bool) → opens-by false b ≡ 3 * 4294967296
-  unfolding resultOf openRefused numberOf
+  unfolding resultOf verdictNumber refusalNumber
   refused-both b = refl
 
 pub c-opens : C-opens
-unfolding resultOf openRefused numberOf openSession opening
+unfolding resultOf verdictNumber refusalNumber openSession opening
 c-opens rights ses =
     record {
       taken = λ e h. (
         result-by rights ses ∙ ap₂ (opens-by rights ses) (eq-eqb _ _ e) (room rights ses h),
-        opening-bytes rights ses h,
+        opening-bytes rights ses h .0,
+        opening-bytes rights ses h .1,
       );
-      refused = λ n. result-by rights ses ∙ ap (λ (a : Bool). opens-by rights ses a (fits ses 0 (sessionBytes (opened rights)))) (ne-eqb (length rights) 60 n) ∙ refused-both rights ses (fits ses 0 (sessionBytes (opened rights)));
+      refused = λ n. result-by rights ses ∙ ap (λ (a : Bool). opens-by rights ses a (putFits ses 0 (sessionBytes (opened rights)))) (ne-eqb (length rights) 60 n) ∙ refused-both rights ses (putFits ses 0 (sessionBytes (opened rights)));
       short = λ e h. result-by rights ses ∙ ap₂ (opens-by rights ses) (eq-eqb _ _ e) (no-room rights ses h);
-      unwritten = λ h. put-no ses 0 (sessionBytes (opened rights)) (omega (arith, h, opened-size rights ses));
+      unwritten = λ h. put-refused ses 0 (sessionBytes (opened rights)) (omega (arith, h, opened-size rights ses));
     }

@@ -9,47 +9,47 @@ use native.Mathlib.Omega.{arith}
 use lib.ListN.{length, length-append}
 use lib.Dec.{leb, eqb, lit≤}
 use borrow.Author.Tests.{eqb-true, le-leb}
-use Rattle.base.specs.Choice.{pick, every}
-use Rattle.base.specs.Bytes.{part}
-use Rattle.base.proofs.Cases.{by-cases, false-true, held, all-held}
+use Rattle.base.specs.Choice.{ifElse, allOf}
+use Rattle.base.specs.Bytes.{part, AllBytes}
+use Rattle.base.proofs.Cases.{by-cases, false-true, allOf-facts, allOf-accepted}
 use Rattle.base.proofs.Parts.{length-part}
-use Rattle.bodies.specs.declared.rules.Rule.{Rule}
-use Rattle.writer.specs.Writing.{tlv, tagBytes, lengthBytes}
-use Rattle.objects.specs.Encoding.{Bytes}
-use Rattle.objects.proofs.Unique.{length-tlv}
-use Rattle.templates.specs.Search.{Sought, searchData, readSearch, SearchSized, Searches}
-use Rattle.templates.specs.declared.Query.{Query}
-use Rattle.templates.specs.declared.Query.the-variants.{Ask, Refused}
-use Rattle.templates.specs.declared.Search.{Search}
-use Rattle.templates.proofs.Searches.{search-sound, search-complete}
-use Rattle.session.specs.Order.{inOrder}
-use Rattle.session.specs.Reach.{reach}
-use Rattle.session.specs.Refusals.{refusal}
-use Rattle.session.specs.declared.Refusal.{Refusal}
-use Rattle.session.specs.declared.Refusal.the-variants.{Taken, ShortBuffer, BadImage, BadRights, BadSession}
-use Rattle.session.specs.declared.Session.{Session}
-use Rattle.session.specs.declared.Reached.{Reached}
-use Rattle.session.specs.declared.Task.the-variants.{ReadRecords}
-use Rattle.session.proofs.Steps.{in-order}
-use Rattle.apdu.specs.Shape.{pair, orMost, headerOf, framed, firstOf, shapes, shapeOf}
-use Rattle.apdu.specs.declared.Apdu.{Apdu}
-use Rattle.apdu.specs.declared.Apdu.the-variants.{Bad, Good}
-use Rattle.apdu.specs.declared.Frame.{Frame}
-use Rattle.apdu.specs.declared.Header.{Header}
-use Rattle.apdu.proofs.Laws.{sound}
-use Rattle.decision.specs.Tests.{allLe, onward}
-use Rattle.decision.specs.declared.Decision.{Decision}
-use Rattle.decision.specs.declared.Decision.the-variants.{Status, Enter, Choose, Bytes as ReadOf, Write, Activate, Append, Read, Seek, Report}
-use Rattle.recordfiles.specs.SearchRecord as recordfiles
-use Rattle.recordfiles.specs.SearchRecord.{searchNamed, searchAt, searchRecord}
-use Rattle.commands.specs.Decide.{byIns, byClass, byShape, decide, dataBy, dataOf}
-use Rattle.commands.proofs.Allowing.{From, FromShape, decide-from, bytes-part}
-use Rattle.effects.specs.Outcome.{Outcome, says}
+use Rattle.store_kinds.specs.declared.rules.Rule.{Rule}
+use Rattle.objects_writer.specs.Writing.{tlv, tagBytes, lengthBytes}
+use Rattle.objects_reader.proofs.Unique.{length-tlv}
+use Rattle.objects_templates.specs.Search.{SearchFields, searchData, readSearch, SearchSized, Searches}
+use Rattle.objects_templates.specs.declared.Query.{Query}
+use Rattle.objects_templates.specs.declared.Query.the-variants.{Ask, NoQuery}
+use Rattle.objects_templates.specs.declared.Search.{Search}
+use Rattle.objects_templates.proofs.Searches.{search-sound, search-complete}
+use Rattle.machine_session.specs.Order.{inOrder}
+use Rattle.machine_session.specs.Resolve.{resolveRecord}
+use Rattle.machine_session.specs.declared.Access.the-variants.{Read}
+use Rattle.machine_session.specs.declared.ResolvedRecord.{ResolvedRecord}
+use Rattle.machine_session.specs.Verdict.{refusalNumber, verdictNumber, verdict}
+use Rattle.machine_session.specs.declared.Session.{Session}
+use Rattle.machine_session.specs.declared.Refusal.{Refusal}
+use Rattle.machine_session.specs.declared.Refusal.the-variants.{ShortBuffer, BadImage, BadRights, BadSession}
+use Rattle.machine_session.specs.declared.Verdict.{Verdict}
+use Rattle.machine_session.specs.declared.Verdict.the-variants.{Accepted, Refused}
+use Rattle.machine_session.proofs.Steps.{inOrder-each}
+use Rattle.machine_apdu.specs.Shape.{be16At, orMost, headerOf, framed, firstShape, shapes, shapeOf}
+use Rattle.machine_apdu.specs.declared.Apdu.{Apdu}
+use Rattle.machine_apdu.specs.declared.Apdu.the-variants.{Bad, Good}
+use Rattle.machine_apdu.specs.declared.Frame.{Frame}
+use Rattle.machine_apdu.specs.declared.Header.{Header}
+use Rattle.machine_apdu.proofs.Laws.{shape-facts}
+use Rattle.machine_action.specs.Tests.{allLe, onRecord}
+use Rattle.machine_action.specs.declared.Action.{Action}
+use Rattle.machine_action.specs.declared.Action.the-variants.{Status, SelectApplication, SelectFile, ReadBinary, UpdateBinary, Activate, AppendRecord, ReadRecord, SearchRecord, Report}
+use Rattle.machine_record.specs.SearchRecord.{searchNamed, searchOn, searchBy, searchRecord}
+use Rattle.machine_dispatch.specs.Decide.{byIns, byClass, byShape, decide, dataBy, dataOf}
+use Rattle.machine_dispatch.proofs.Allowing.{From, FromShape, decide-from, bytes-part}
+use Rattle.machine_answer.specs.Outcome.{Outcome, says}
 use Rattle.machine.specs.Effects.{done}
-use Rattle.machine.specs.Step.{taken, step}
+use Rattle.machine.specs.Step.{verdictOn, stepBy, step}
 use Rattle.promises.specs.Calls.{isPair}
 use Rattle.promises.specs.Promises.{SearchCommand, Searching, Only-searches, Search-refused}
-use Rattle.promises.proofs.Answering.{step-taken}
+use Rattle.promises.proofs.Answering.{step-accepted}
 use Rattle.promises.proofs.Wording.{refusing-not, Worded, decide-word}
 
 -- ---- steps 1 to 3
@@ -59,7 +59,7 @@ module _ (cmd : List ℕ) (f : Frame) (e : shapeOf cmd ≡ Good f) where
   data-is = unfold dataOf in ap (dataBy cmd) e
 
   pub data-length : length (dataOf cmd) ≡ f .lc
-  data-length = ap length data-is ∙ length-part cmd (f .from) (f .lc) (sound cmd (shapeOf cmd) f refl e .inside)
+  data-length = ap length data-is ∙ length-part cmd (f .from) (f .lc) (shape-facts cmd (shapeOf cmd) f refl e .inside)
 
   -- CLA 00 and INS A2 lead to SEARCH RECORD
   led : (img : List ℕ) (s : Session) → f .header .cla ≡ 0x00 → f .header .ins ≡ 0xA2 → decide img s cmd ≡ searchRecord img s f (dataOf cmd)
@@ -76,18 +76,18 @@ pub record Tests (f : Frame) : Type 0 where
   pub le : allLe f ≡ true
 
 module _ (img : List ℕ) (s : Session) (f : Frame) (d : List ℕ) where
-  passed : Tests f → searchRecord img s f d ≡ recordfiles.searchData img s (f .ne) d (readSearch d)
+  passed : Tests f → searchRecord img s f d ≡ searchBy img s (f .ne) d (readSearch d)
   unfolding searchRecord inOrder
-  passed t = simp (all-held (eqb (f .header .p1) 0 ∷ eqb (f .header .p2) 0xF8 ∷ []) (t .p1, (t .p2, tt)), all-held (leb 1 (f .lc) ∷ allLe f ∷ []) (t .lc, (t .le, tt)))
+  passed t = simp (allOf-accepted (eqb (f .header .p1) 0 ∷ eqb (f .header .p2) 0xF8 ∷ []) (t .p1, (t .p2, tt)), allOf-accepted (leb 1 (f .lc) ∷ allLe f ∷ []) (t .lc, (t .le, tt)))
 
   -- where a search is decided they held
-  tested : (r : Rule) (q : Search) (ne : ℕ) → searchRecord img s f d ≡ Seek r q ne → Tests f
+  tested : (r : Rule) (q : Search) (ne : ℕ) → searchRecord img s f d ≡ SearchRecord r q ne → Tests f
   unfolding searchRecord
   tested r q ne =
-      in-order (λ (x : Decision). x ≡ Seek r q ne → Tests f) _ _ (no 0x6A86, (no 0x6700, tt))
-      (λ p e. let a = held _ (p .0) in let b = held _ (p .1 .0) in record { p1 = a .0; p2 = a .1 .0; lc = b .0; le = b .1 .0 })
+      inOrder-each (λ (x : Action). x ≡ SearchRecord r q ne → Tests f) _ _ (no 0x6A86, (no 0x6700, tt))
+      (λ p e. let a = allOf-facts _ (p .0) in let b = allOf-facts _ (p .1 .0) in record { p1 = a .0; p2 = a .1 .0; lc = b .0; le = b .1 .0 })
     where
-      no : (w : ℕ) → Status w ≡ Seek r q ne → Tests f
+      no : (w : ℕ) → Status w ≡ SearchRecord r q ne → Tests f
       no w e = let z : _≡_ {A = ℕ} 0 1 = cc in absurd (omega arith)
 
 -- ---- the twins
@@ -95,7 +95,7 @@ module _ (img : List ℕ) (s : Session) (f : Frame) (d : List ℕ) where
 header-is : (h : Header) → h .cla ≡ 0x00 → h .ins ≡ 0xA2 → h .p1 ≡ 0x00 → h .p2 ≡ 0xF8 → h ≡ record { cla = 0x00; ins = 0xA2; p1 = 0x00; p2 = 0xF8 }
 header-is h a b c d = λ i. record { cla = a i; ins = b i; p1 = c i; p2 = d i }
 
-some-data : (x : Sought) → SearchSized x → 1 ≤ length (searchData x)
+some-data : (x : SearchFields) → SearchSized x → 1 ≤ length (searchData x)
 unfolding searchData
 some-data x z =
     let a = tlv 0x81 (x .text) in
@@ -104,9 +104,9 @@ some-data x z =
     let k = z .text-size in
     omega (arith, length-tlv 0x81 (x .text), length-tlv 0xB1 a, length-tlv 0xA3 b, length-append d (tlv 0xA3 b), length-tlv 0x7F76 (d ++ tlv 0xA3 b))
 
-pub search-decided-complete : (img : List ℕ) (s : Session) (cmd buf : List ℕ) (f : Frame) (x : Sought) (r : Rule)
+pub search-decided-complete : (img : List ℕ) (s : Session) (cmd buf : List ℕ) (f : Frame) (x : SearchFields) (r : Rule)
     → Searching img s cmd buf f x r
-    → (q : Search) × (decide img s cmd ≡ Seek r q (f .ne)) × Searches (dataOf cmd) q x
+    → (q : Search) × (decide img s cmd ≡ SearchRecord r q (f .ne)) × Searches (dataOf cmd) q x
 search-decided-complete img s cmd buf f x r h =
     let c = h .command in
     let d = dataOf cmd in
@@ -124,21 +124,21 @@ search-decided-complete img s cmd buf f x r h =
       q,
       led cmd f (c .shape) img s (ap (λ (y : Header). y .cla) (c .header)) (ap (λ (y : Header). y .ins) (c .header))
           ∙ passed img s f d t
-          ∙ ap (recordfiles.searchData img s (f .ne) d) (ap readSearch (c .writes) ∙ k .1)
-          ∙ ap (λ (v : List ℕ). onward (reach img s ReadRecords (searchNamed v)) (searchAt q (f .ne))) (w .file-placed .is)
-          ∙ ap (λ (y : Reached). onward y (searchAt q (f .ne))) (h .file),
+          ∙ ap (searchBy img s (f .ne) d) (ap readSearch (c .writes) ∙ k .1)
+          ∙ ap (λ (v : List ℕ). onRecord (resolveRecord img s Read (searchNamed v)) (searchOn q (f .ne))) (w .file-placed .is)
+          ∙ ap (λ (y : ResolvedRecord). onRecord y (searchOn q (f .ne))) (h .file),
       w,
     )
 
 pub search-decided-sound : (img : List ℕ) (s : Session) (cmd buf : List ℕ) (r : Rule) (q : Search) (ne : ℕ)
-    → Bytes cmd
-    → refusal img s (length buf) ≡ Taken
-    → decide img s cmd ≡ Seek r q ne
-    → (f : Frame) × (x : Sought) × Searching img s cmd buf f x r × (ne ≡ f .ne) × Searches (dataOf cmd) q x
+    → AllBytes cmd
+    → verdictOn img s (length buf) ≡ Accepted
+    → decide img s cmd ≡ SearchRecord r q ne
+    → (f : Frame) × (x : SearchFields) × Searching img s cmd buf f x r × (ne ≡ f .ne) × Searches (dataOf cmd) q x
 search-decided-sound img s cmd buf r q ne b t e = go (shapeOf cmd) refl (subst (FromShape img s cmd (shapeOf cmd)) e (decide-from img s cmd))
   where
-    go : (a : Apdu) → shapeOf cmd ≡ a → FromShape img s cmd a (Seek r q ne)
-        → (f : Frame) × (x : Sought) × Searching img s cmd buf f x r × (ne ≡ f .ne) × Searches (dataOf cmd) q x
+    go : (a : Apdu) → shapeOf cmd ≡ a → FromShape img s cmd a (SearchRecord r q ne)
+        → (f : Frame) × (x : SearchFields) × Searching img s cmd buf f x r × (ne ≡ f .ne) × Searches (dataOf cmd) q x
     go Bad z h = let y : _≡_ {A = ℕ} 0 1 = cc in absurd (omega arith)
     go (Good f) z h =
         let d = data-is cmd f z in
@@ -154,7 +154,7 @@ search-decided-sound img s cmd buf r q ne b t e = go (shapeOf cmd) refl (subst (
           record {
             accepted = t;
             command = record { shape = z; header = l; le = v .le; writes = w .written; sized = w .sized };
-            file = ap (λ (l : List ℕ). reach img s ReadRecords (searchNamed l)) (sym (k .1 .file-placed .is)) ∙ h .at;
+            file = ap (λ (l : List ℕ). resolveRecord img s Read (searchNamed l)) (sym (k .1 .file-placed .is)) ∙ h .at;
           },
           h .most,
           w,
@@ -162,32 +162,26 @@ search-decided-sound img s cmd buf r q ne b t e = go (shapeOf cmd) refl (subst (
 
 -- ---- the same of what is answered
 
--- a call that gets 9000 or 6282 is taken
-two-taken : (img : List ℕ) (s : Session) (cmd buf : List ℕ) → (step img s cmd buf .answer .status ≡ 0x9000) ⊎ (step img s cmd buf .answer .status ≡ 0x6282) → refusal img s (length buf) ≡ Taken
-unfolding step taken
-two-taken img s cmd buf w = go (refusal img s (length buf)) w
+-- a call that gets 9000 or 6282 is accepted
+two-accepted : (img : List ℕ) (s : Session) (cmd buf : List ℕ) → (step img s cmd buf .answer .status ≡ 0x9000) ⊎ (step img s cmd buf .answer .status ≡ 0x6282) → verdictOn img s (length buf) ≡ Accepted
+unfolding step stepBy
+two-accepted img s cmd buf w = go (verdictOn img s (length buf)) w
   where
-    no : (_≡_ {A = ℕ} 0 0x9000) ⊎ (_≡_ {A = ℕ} 0 0x6282) → ⊥
-    no w = ⊎-elim (λ e. omega (arith, e)) (λ e. omega (arith, e)) w
-
-    go : (x : Refusal) → (taken x img s cmd buf .answer .status ≡ 0x9000) ⊎ (taken x img s cmd buf .answer .status ≡ 0x6282) → x ≡ Taken
-    go Taken w = refl
-    go ShortBuffer w = absurd (no w)
-    go BadImage w = absurd (no w)
-    go BadRights w = absurd (no w)
-    go BadSession w = absurd (no w)
+    go : (x : Verdict) → (stepBy x img s cmd buf .answer .status ≡ 0x9000) ⊎ (stepBy x img s cmd buf .answer .status ≡ 0x6282) → x ≡ Accepted
+    go Accepted w = refl
+    go (Refused r) w = absurd (⊎-elim (λ e. omega (arith, e)) (λ e. omega (arith, e)) w)
 
 pub only-searches : Only-searches
 only-searches img s cmd buf f b e p w =
-    let t = two-taken img s cmd buf w in
-    let u = step-taken img s cmd buf t in
+    let t = two-accepted img s cmd buf w in
+    let u = step-accepted img s cmd buf t in
     go t (decide img s cmd) refl
     (subst (λ (o : Outcome). (o .answer .status ≡ 0x9000) ⊎ (o .answer .status ≡ 0x6282)) u w)
     (subst (λ (a : Apdu). FromShape img s cmd a (decide img s cmd)) e (decide-from img s cmd))
     (decide-word img s cmd)
   where
     ins : f .header .ins ≡ 0xA2
-    ins = unfold isPair in eqb-true _ _ (held (eqb (f .header .cla) 0x00 ∷ eqb (f .header .ins) 0xA2 ∷ []) p .1 .0)
+    ins = unfold isPair in eqb-true _ _ (allOf-facts (eqb (f .header .cla) 0x00 ∷ eqb (f .header .ins) 0xA2 ∷ []) p .1 .0)
 
     -- another INS
     other : {A : Type 0} (i : ℕ) → eqb (f .header .ins) i ≡ true → eqb 0xA2 i ≡ false → A
@@ -196,39 +190,39 @@ only-searches img s cmd buf f b e p w =
     same-frame : (g : Frame) → shapeOf cmd ≡ Good g → g ≡ f
     same-frame g z = let y : Good g ≡ Good f = sym z ∙ e in cc
 
-    go : refusal img s (length buf) ≡ Taken → (x : Decision) → decide img s cmd ≡ x
+    go : verdictOn img s (length buf) ≡ Accepted → (x : Action) → decide img s cmd ≡ x
         → (done x img s (dataOf cmd) buf .answer .status ≡ 0x9000) ⊎ (done x img s (dataOf cmd) buf .answer .status ≡ 0x6282)
         → From img s f (part cmd (f .from) (f .lc)) x → Worded x
-        → (x : Sought) × (r : Rule) × Searching img s cmd buf f x r
+        → (x : SearchFields) × (r : Rule) × Searching img s cmd buf f x r
     go t (Status v) z w h k =
         unfold done says in absurd (⊎-elim (refusing-not v 0x9000 k refl) (refusing-not v 0x6282 k refl) w)
-    go t (Enter a) z w h k = other 0xA4 (h .0 .1) refl
-    go t (Choose g) z w h k = other 0xA4 (h .0 .1) refl
-    go t (ReadOf g a n) z w h k = other 0xB0 (h .0 .1) refl
-    go t (Write g v) z w h k = other 0xD7 (h .0 .1) refl
-    go t (Activate g) z w h k = other 0x44 (h .0 .1) refl
-    go t (Append r) z w h k = other 0xE2 (h .0 .1) refl
-    go t (Read r a n) z w h k = other 0xB2 (h .pair .1) refl
-    go t (Seek r q ne) z w h k =
+    go t (SelectApplication a) z w h k = other 0xA4 (h .0 .1) refl
+    go t (SelectFile g) z w h k = other 0xA4 (h .0 .1) refl
+    go t (ReadBinary u a n) z w h k = other 0xB0 (h .0 .1) refl
+    go t (UpdateBinary n v) z w h k = other 0xD7 (h .0 .1) refl
+    go t (Activate n) z w h k = other 0x44 (h .0 .1) refl
+    go t (AppendRecord r) z w h k = other 0xE2 (h .0 .1) refl
+    go t (ReadRecord r a n) z w h k = other 0xB2 (h .pair .1) refl
+    go t (SearchRecord r q ne) z w h k =
         let y = search-decided-sound img s cmd buf r q ne b t z in
         (y .1, r, subst (λ (g : Frame). Searching img s cmd buf g (y .1) r) (same-frame (y .0) (y .2 .command .shape)) (y .2))
     go t (Report g p2) z w h k = other 0x5E (h .0 .1) refl
 
 pub search-refused : Search-refused
 search-refused img s cmd buf f b t e h n =
-    ap (λ (o : Outcome). o .answer .status) (step-taken img s cmd buf t ∙ ap (λ (x : Decision). done x img s (dataOf cmd) buf) decided)
+    ap (λ (o : Outcome). o .answer .status) (step-accepted img s cmd buf t ∙ ap (λ (x : Action). done x img s (dataOf cmd) buf) decided)
     ∙ said
   where
     five : Bool
-    five = every (leb 1 (f .lc) ∷ allLe f ∷ [])
+    five = allOf (leb 1 (f .lc) ∷ allLe f ∷ [])
 
-    no-query : readSearch (dataOf cmd) ≡ Refused
+    no-query : readSearch (dataOf cmd) ≡ NoQuery
     no-query = go (readSearch (dataOf cmd)) refl
       where
-        go : (q : Query) → readSearch (dataOf cmd) ≡ q → readSearch (dataOf cmd) ≡ Refused
-        go Refused z = z
+        go : (q : Query) → readSearch (dataOf cmd) ≡ q → readSearch (dataOf cmd) ≡ NoQuery
+        go NoQuery z = z
         go (Ask q) z =
-            let k = search-sound (dataOf cmd) q z (subst Bytes (sym (data-is cmd f e)) (bytes-part cmd (f .from) (f .lc) b)) in
+            let k = search-sound (dataOf cmd) q z (subst AllBytes (sym (data-is cmd f e)) (bytes-part cmd (f .from) (f .lc) b)) in
             absurd (n (k .0) (k .1 .written) (k .1 .sized))
 
     p1 : eqb (f .header .p1) 0 ≡ true
@@ -237,28 +231,28 @@ search-refused img s cmd buf f b t e h n =
     p2 : eqb (f .header .p2) 0xF8 ≡ true
     p2 = ap (λ (y : Header). eqb (y .p2) 0xF8) h
 
-    tests : searchRecord img s f (dataOf cmd) ≡ pick five (recordfiles.searchData img s (f .ne) (dataOf cmd) (readSearch (dataOf cmd))) (Status 0x6700)
-    tests = unfold searchRecord inOrder in simp (all-held (eqb (f .header .p1) 0 ∷ eqb (f .header .p2) 0xF8 ∷ []) (p1, (p2, tt)))
+    tests : searchRecord img s f (dataOf cmd) ≡ ifElse five (searchBy img s (f .ne) (dataOf cmd) (readSearch (dataOf cmd))) (Status 0x6700)
+    tests = unfold searchRecord inOrder in simp (allOf-accepted (eqb (f .header .p1) 0 ∷ eqb (f .header .p2) 0xF8 ∷ []) (p1, (p2, tt)))
 
-    decided : decide img s cmd ≡ pick five (Status 0x6A80) (Status 0x6700)
+    decided : decide img s cmd ≡ ifElse five (Status 0x6A80) (Status 0x6700)
     decided =
         led cmd f e img s (ap (λ (y : Header). y .cla) h) (ap (λ (y : Header). y .ins) h)
         ∙ tests
-        ∙ ap (λ (q : Query). pick five (recordfiles.searchData img s (f .ne) (dataOf cmd) q) (Status 0x6700)) no-query
+        ∙ ap (λ (q : Query). ifElse five (searchBy img s (f .ne) (dataOf cmd) q) (Status 0x6700)) no-query
 
-    said : done (pick five (Status 0x6A80) (Status 0x6700)) img s (dataOf cmd) buf .answer .status ≡ pick five 0x6A80 0x6700
+    said : done (ifElse five (Status 0x6A80) (Status 0x6700)) img s (dataOf cmd) buf .answer .status ≡ ifElse five 0x6A80 0x6700
     said = unfold done says in by-cases five (λ y. simp y) (λ y. simp y)
 
--- ---- document 01, m6: such a command
+-- ---- m6 of the card to try is such a command
 
-abbrev m6-fields : Sought
+abbrev m6-fields : SearchFields
 m6-fields = record { file = 0x01 ∷ []; mode = 0x00; offset = 0x03 ∷ []; number = 0x03 ∷ []; text = 0x46 ∷ 0x52 ∷ 0x41 ∷ [] }
 
 abbrev m6-frame : Frame
 m6-frame = record { header = record { cla = 0x00; ins = 0xA2; p1 = 0x00; p2 = 0xF8 }; from = 5; lc = 28; le = 1; ne = 256 }
 
 pub m6 : SearchCommand (0x00 ∷ 0xA2 ∷ 0x00 ∷ 0xF8 ∷ 0x1C ∷ 0x7F ∷ 0x76 ∷ 0x19 ∷ 0x51 ∷ 0x01 ∷ 0x01 ∷ 0xA1 ∷ 0x0B ∷ 0x80 ∷ 0x01 ∷ 0x00 ∷ 0xB0 ∷ 0x06 ∷ 0x02 ∷ 0x01 ∷ 0x03 ∷ 0x02 ∷ 0x01 ∷ 0x03 ∷ 0xA3 ∷ 0x07 ∷ 0xB1 ∷ 0x05 ∷ 0x81 ∷ 0x03 ∷ 0x46 ∷ 0x52 ∷ 0x41 ∷ 0x00 ∷ []) m6-frame m6-fields
-unfolding shapeOf shapes firstOf framed headerOf orMost pair allLe every dataOf searchData tlv tagBytes lengthBytes
+unfolding shapeOf shapes firstShape framed headerOf orMost be16At allLe allOf dataOf searchData tlv tagBytes lengthBytes
 m6 = record {
   shape = refl;
   header = refl;

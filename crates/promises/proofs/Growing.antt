@@ -1,4 +1,4 @@
--- What calls do to the records of each file.
+-- What calls do to the records of each file. Read ../specs/Calls.antt before. Exports `call-grown`, `calls-held`, `number-kept`.
 use Prim.Native.Nat.{ℕ, _+_, _/_, _≤_}
 use mathlib.Core.Path.{_≡_, refl, sym, ap, ap₂, subst, _∙_}
 use mathlib.Core.Bool.{Bool, true, false}
@@ -7,45 +7,46 @@ use native.Mathlib.Omega.{arith}
 use lib.ListN.{length, drop, length-take}
 use lib.Dec.{eqb, ltb}
 use borrow.Author.Tests.{eqb-true, eqb-false, eq-eqb, leb-true, ltb-true, le-leb}
-use Rattle.base.specs.Choice.{pick, every}
+use Rattle.base.specs.Choice.{ifElse, allOf}
 use Rattle.base.specs.Bytes.{part}
-use Rattle.base.proofs.Cases.{by-cases, pick-ind, false-true, held, all-held}
-use Rattle.records.specs.Body.{nth}
-use Rattle.bodies.specs.Biometrics.{room, takes}
-use Rattle.bodies.specs.Rules.{isBiometrics}
-use Rattle.store.specs.Image.{has, body, wellFormed, recordsOf, appendTo, updateIn}
-use Rattle.bodies.specs.declared.rules.Rule.{Rule}
-use Rattle.store.proofs.Laws.{Accepts, Changed, append-changes, append-list, records-kept, biometrics-file, update-changes, activate-changes, nth-kept}
-use Rattle.templates.specs.declared.Writes.{Writes}
-use Rattle.files.specs.Files.{kindOf}
-use Rattle.files.specs.declared.File.{File}
-use Rattle.files.specs.declared.File.the-variants.{Missing, Info, Dir, Records, Biometrics}
-use Rattle.session.specs.Reach.{reach, suits, permitted}
-use Rattle.session.specs.Refusals.{refusal}
-use Rattle.session.specs.declared.Session.{Session}
-use Rattle.session.specs.declared.Refusal.{Refusal}
-use Rattle.session.specs.declared.Refusal.the-variants.{Taken, ShortBuffer, BadImage, BadRights, BadSession}
-use Rattle.session.specs.declared.Task.the-variants.{WriteBytes, AppendRecord}
-use Rattle.session.specs.declared.Reached.the-variants.{At}
-use Rattle.session.proofs.Steps.{in-order, FileReached}
-use Rattle.apdu.specs.Shape.{shapeOf}
-use Rattle.apdu.specs.declared.Apdu.{Apdu}
-use Rattle.apdu.specs.declared.Apdu.the-variants.{Bad, Good}
-use Rattle.apdu.specs.declared.Frame.{Frame}
-use Rattle.decision.specs.Tests.{orCurrent}
-use Rattle.commands.specs.Decide.{decide, dataBy, dataOf}
-use Rattle.decision.specs.declared.Decision.{Decision}
-use Rattle.decision.specs.declared.Decision.the-variants.{Status, Enter, Choose, Bytes, Write, Activate, Append, Read, Seek, Report}
-use Rattle.commands.proofs.Allowing.{Pair, Appends, Writable, From, FromShape, decide-from}
-use Rattle.effects.specs.Outcome.{Outcome, says}
-use Rattle.machine.specs.Effects.{sought, done}
-use Rattle.machine.specs.Step.{taken, step}
-use Rattle.moving.specs.Moving.{carry, carryInto}
-use Rattle.moving.specs.declared.Moved.{Moved}
-use Rattle.moving.specs.declared.Moved.the-variants.{Image, Refused}
-use Rattle.promises.specs.Calls.{Call, Open, Command, Move, goesOn, next, after, isPair, fileOf, addedBy, added, additions, history}
+use Rattle.base.proofs.Cases.{by-cases, ifElse-ind, false-true, allOf-facts, allOf-accepted}
+use Rattle.store_records.specs.Body.{nth}
+use Rattle.store_kinds.specs.Biometrics.{room, updatable}
+use Rattle.store_kinds.specs.Rules.{isBiometrics, biometricsKind}
+use Rattle.store_image.specs.Image.{has, body, wellFormed, recordsOf, appendTo, updateIn}
+use Rattle.store_kinds.specs.declared.rules.Rule.{Rule}
+use Rattle.store_image.proofs.Laws.{Accepts, Changed, append-changes, append-list, records-kept, biometrics-file, update-changes, activate-changes, nth-kept}
+use Rattle.objects_templates.specs.declared.Writes.{Writes}
+use Rattle.objects_templates.specs.declared.Search.{Search}
+use Rattle.machine_record.specs.SearchRecord.{searchStatus}
+use Rattle.machine_session.specs.Resolve.{resolveRecord}
+use Rattle.machine_session.specs.Verdict.{refusalNumber, verdictNumber, verdict}
+use Rattle.machine_session.specs.declared.Session.{Session}
+use Rattle.machine_session.specs.declared.Refusal.{Refusal}
+use Rattle.machine_session.specs.declared.Refusal.the-variants.{ShortBuffer, BadImage, BadRights, BadSession}
+use Rattle.machine_session.specs.declared.Verdict.{Verdict}
+use Rattle.machine_session.specs.declared.Verdict.the-variants.{Accepted, Refused}
+use Rattle.machine_session.specs.declared.Access.the-variants.{Append}
+use Rattle.machine_session.specs.declared.ResolvedRecord.{ResolvedRecord}
+use Rattle.machine_session.specs.declared.ResolvedRecord.the-variants.{RecordAt}
+use Rattle.machine_apdu.specs.Shape.{shapeOf}
+use Rattle.machine_apdu.specs.declared.Apdu.{Apdu}
+use Rattle.machine_apdu.specs.declared.Apdu.the-variants.{Bad, Good}
+use Rattle.machine_apdu.specs.declared.Frame.{Frame}
+use Rattle.machine_action.specs.Tests.{orCurrent}
+use Rattle.machine_dispatch.specs.Decide.{decide, dataBy, dataOf}
+use Rattle.machine_action.specs.declared.Action.{Action}
+use Rattle.machine_action.specs.declared.Action.the-variants.{Status, SelectApplication, SelectFile, ReadBinary, UpdateBinary, Activate, AppendRecord, ReadRecord, SearchRecord, Report}
+use Rattle.machine_dispatch.proofs.Allowing.{Pair, Appends, Writable, From, FromShape, decide-from}
+use Rattle.machine_answer.specs.Outcome.{Outcome, says}
+use Rattle.machine.specs.Effects.{searched, done}
+use Rattle.machine.specs.Step.{verdictOn, stepBy, step}
+use Rattle.store_move.specs.Moving.{moveCard, moveCardInto}
+use Rattle.store_move.specs.declared.Moved.{Moved}
+use Rattle.store_move.specs.declared.Moved.the-variants.{Image, Refused as MoveRefused}
+use Rattle.promises.specs.Calls.{Call, Open, Command, Move, imageAfterMove, afterCall, after, isPair, isOfKind, addedBy, added, additions, history}
 use Rattle.promises.specs.Promises.{Holds, Number-kept}
-use Rattle.promises.proofs.Moving.{carries}
+use Rattle.promises.proofs.Moving.{move-done}
 
 -- an image that has lost no file, in which each record file has some records more
 pub record Grown (img new : List ℕ) (more : ℕ → List (List ℕ)) : Type 0 where
@@ -72,69 +73,60 @@ module _ (img : List ℕ) (o : wellFormed img ≡ true) where
             ∙ sym (append-nil (recordsOf img k)) ∙ ap (λ (l : List (List ℕ)). recordsOf img k ++ l) (sym (n k));
       }
 
--- a file that bytes are written in is a biometrics file of the image
-pub record Written (img : List ℕ) (f : File) : Type 0 where
-  pub kind : isBiometrics (kindOf f) ≡ true
-  pub stands : has img (kindOf f) ≡ true
-
-pub written : (img : List ℕ) (s : Session) (f : File) → FileReached img s WriteBytes f → Written img f
-unfolding suits permitted kindOf
-written img s Missing r = false-true (r .allowed)
-written img s Info r = false-true (r .allowed)
-written img s Dir r = false-true (r .allowed)
-written img s (Records q) r = false-true (r .suited)
-written img s (Biometrics n) r = record { kind = r .ok .kind; stands = r .ok .stands }
-
 -- ---- what a command appends
 
 module _ (img : List ℕ) (s : Session) (cmd : List ℕ) (f : Frame) (w : ℕ) where
   abbrev tests : ℕ → List Bool
-  tests k = isPair f 0x00 0xE2 ∷ eqb w 0x9000 ∷ eqb (fileOf (reach img s AppendRecord (orCurrent (f .header .p2 / 8)))) k ∷ []
+  tests k = isPair f 0x00 0xE2 ∷ eqb w 0x9000 ∷ isOfKind (resolveRecord img s Append (orCurrent (f .header .p2 / 8))) k ∷ []
 
-  none : (k : ℕ) → (every (tests k) ≡ true → ⊥) → addedBy k img s cmd w (Good f) ≡ []
-  none k h = pick-ind (λ (l : List (List ℕ)). l ≡ []) (every (tests k)) (λ e. absurd (h e)) (λ e. refl)
+  none : (k : ℕ) → (allOf (tests k) ≡ true → ⊥) → addedBy k img s cmd w (Good f) ≡ []
+  none k h = ifElse-ind (λ (l : List (List ℕ)). l ≡ []) (allOf (tests k)) (λ e. absurd (h e)) (λ e. refl)
 
   -- nothing by another command, and nothing by a status other than 9000
-  by-pair : (c i : ℕ) → Pair f c i → every (eqb c 0x00 ∷ eqb i 0xE2 ∷ []) ≡ false → (k : ℕ) → addedBy k img s cmd w (Good f) ≡ []
+  by-pair : (c i : ℕ) → Pair f c i → allOf (eqb c 0x00 ∷ eqb i 0xE2 ∷ []) ≡ false → (k : ℕ) → addedBy k img s cmd w (Good f) ≡ []
   unfolding isPair
   by-pair c i p e k =
       none k (λ h. false-true (sym e
-      ∙ sym (ap₂ (λ (x y : ℕ). every (eqb x 0x00 ∷ eqb y 0xE2 ∷ [])) (eqb-true (f .header .cla) c (p .0)) (eqb-true (f .header .ins) i (p .1)))
-      ∙ held (tests k) h .0))
+      ∙ sym (ap₂ (λ (x y : ℕ). allOf (eqb x 0x00 ∷ eqb y 0xE2 ∷ [])) (eqb-true (f .header .cla) c (p .0)) (eqb-true (f .header .ins) i (p .1)))
+      ∙ allOf-facts (tests k) h .0))
 
   by-status : ltb w 0x9000 ≡ true → (k : ℕ) → addedBy k img s cmd w (Good f) ≡ []
-  by-status e k = none k (λ h. absurd (omega (arith, ltb-true w 0x9000 e, eqb-true w 0x9000 (held (tests k) h .1 .0))))
+  by-status e k = none k (λ h. absurd (omega (arith, ltb-true w 0x9000 e, eqb-true w 0x9000 (allOf-facts (tests k) h .1 .0))))
 
-  -- its data, to the file that is reached
-  module _ (r : Rule) (p : Pair f 0x00 0xE2) (e : reach img s AppendRecord (orCurrent (f .header .p2 / 8)) ≡ At (Records r)) (is : eqb w 0x9000 ≡ true) where
-    reached : fileOf (reach img s AppendRecord (orCurrent (f .header .p2 / 8))) ≡ r .kind
-    unfolding fileOf
-    reached = ap fileOf e
+  -- its data, to the file that steps 7 to 9 answer
+  module _ (r : Rule) (p : Pair f 0x00 0xE2) (e : resolveRecord img s Append (orCurrent (f .header .p2 / 8)) ≡ RecordAt r) (is : eqb w 0x9000 ≡ true) where
+    of-kind : (k : ℕ) → isOfKind (resolveRecord img s Append (orCurrent (f .header .p2 / 8))) k ≡ eqb (r .kind) k
+    of-kind k = ap (λ (x : ResolvedRecord). isOfKind x k) e
 
     to-file : addedBy (r .kind) img s cmd w (Good f) ≡ part cmd (f .from) (f .lc) ∷ []
     to-file =
-        let t : every (tests (r .kind)) ≡ true = all-held (tests (r .kind)) (unfold isPair in all-held _ (p .0, (p .1, tt)), (is, (eq-eqb _ _ reached, tt))) in
-        ap (λ (b : Bool). pick b (part cmd (f .from) (f .lc) ∷ []) []) t
+        let t : allOf (tests (r .kind)) ≡ true = allOf-accepted (tests (r .kind)) (unfold isPair in allOf-accepted _ (p .0, (p .1, tt)), (is, (of-kind (r .kind) ∙ eq-eqb (r .kind) (r .kind) refl, tt))) in
+        ap (λ (b : Bool). ifElse b (part cmd (f .from) (f .lc) ∷ []) []) t
 
     to-another : (k : ℕ) → (k ≡ r .kind → ⊥) → addedBy k img s cmd w (Good f) ≡ []
-    to-another k n = none k (λ h. n (sym (eqb-true _ k (held (tests k) h .1 .1 .0)) ∙ reached))
+    to-another k n = none k (λ h. n (sym (eqb-true (r .kind) k (sym (of-kind k) ∙ allOf-facts (tests k) h .1 .1 .0))))
 
--- ---- a command that is taken
+-- a refusal has status 0, and adds nothing
+pub refused-none : (img : List ℕ) (s : Session) (cmd : List ℕ) (a : Apdu) (k : ℕ) → addedBy k img s cmd 0 a ≡ []
+refused-none img s cmd Bad k = refl
+refused-none img s cmd (Good f) k = by-status img s cmd f 0 refl k
+
+-- ---- an accepted command
 
 module _ (img : List ℕ) (s : Session) (cmd buf : List ℕ) (o : wellFormed img ≡ true) where
   -- an append
   pub accepts : (d : List ℕ) (r : Rule) → Appends img s (length d) r → Accepts img (r .kind) r (length d)
   accepts d r a =
       record {
-        ruled = a .file .ok .by-kind;
-        stands = a .file .ok .stands;
+        ruled = a .file .file .ok .by-kind;
+        stands = a .file .file .ok .stands;
         some = a .some;
         short = leb-true _ _ (a .short);
         few = ltb-true _ _ (a .few);
         room = a .room;
       }
 
-  appends-grown : (f : Frame) (r : Rule) → From img s f (part cmd (f .from) (f .lc)) (Append r)
+  appends-grown : (f : Frame) (r : Rule) → From img s f (part cmd (f .from) (f .lc)) (AppendRecord r)
       → Grown img (appendTo img (r .kind) (part cmd (f .from) (f .lc))) (λ k. addedBy k img s cmd 0x9000 (Good f))
   appends-grown f r h =
       record { well = c .well; files = λ k h. c .same-files k ∙ h; records = λ k b. by-cases (eqb k (r .kind)) (λ e. here k (eqb-true k (r .kind) e)) (λ e. there k (eqb-false k (r .kind) e)) }
@@ -160,78 +152,73 @@ module _ (img : List ℕ) (s : Session) (cmd buf : List ℕ) (o : wellFormed img
           ∙ ap (λ (l : List (List ℕ)). recordsOf img k ++ l) (sym (to-another img s cmd f 0x9000 r (h .0) (h .1) refl k n))
 
   -- a search leaves the image
-  sought-image : (d : List ℕ) (r : Rule) (q : _) (ne : ℕ) → sought img s d buf r q ne .image ≡ img
-  unfolding sought says
-  sought-image d r q ne = in-order (λ (x : Outcome). x .image ≡ img) _ _ (refl, (refl, tt)) (λ p. refl)
+  searched-image : (d : List ℕ) (r : Rule) (q : Search) (ne : ℕ) → searched img s d buf r q ne .image ≡ img
+  unfolding searched says
+  searched-image d r q ne = ifElse-ind (λ (x : Outcome). x .image ≡ img) (eqb (searchStatus (recordsOf img (r .kind)) d q ne) 0x9000) (λ e. refl) (λ e. refl)
 
-  -- a write is taken
-  module _ (f : File) (w : Writes) (d : List ℕ) (a : Writable img s f w) where
-    pub write-taken : takes (body img (kindOf f)) (w .offset) (length (part d (w .bytes .at) (w .bytes .len))) ≡ true
-    unfolding takes
-    write-taken =
-        let i = written img s f (a .file) in
-        let r : w .offset + w .bytes .len ≤ room (body img (kindOf f)) = leb-true _ _ (a .room) in
-        let l : w .offset + length (part d (w .bytes .at) (w .bytes .len)) ≤ room (body img (kindOf f)) = omega (arith, length-take (w .bytes .len) (drop (w .bytes .at) d)) in
-        all-held _ (biometrics-file img (kindOf f) o (i .kind) (i .stands), (a .behind, (le-leb _ _ l, tt)))
+  -- a write is accepted
+  module _ (n : ℕ) (w : Writes) (d : List ℕ) (a : Writable img s n w) where
+    abbrev k : ℕ
+    k = biometricsKind n
 
-    pub write-changes : Changed img (updateIn img (kindOf f) (w .offset) (part d (w .bytes .at) (w .bytes .len))) (kindOf f)
+    pub write-accepted : updatable (body img k) (w .offset) (length (part d (w .bytes .at) (w .bytes .len))) ≡ true
+    unfolding updatable
+    write-accepted =
+        let i = a .file .file .ok in
+        let r : w .offset + w .bytes .len ≤ room (body img k) = leb-true _ _ (a .room) in
+        let l : w .offset + length (part d (w .bytes .at) (w .bytes .len)) ≤ room (body img k) = omega (arith, length-take (w .bytes .len) (drop (w .bytes .at) d)) in
+        allOf-accepted _ (biometrics-file img k o (i .kind) (i .stands), (a .behind, (le-leb _ _ l, tt)))
+
+    pub write-changes : Changed img (updateIn img k (w .offset) (part d (w .bytes .at) (w .bytes .len))) k
     write-changes =
-        let i = written img s f (a .file) in
-        update-changes img (kindOf f) o (i .kind) (i .stands) (w .offset) (part d (w .bytes .at) (w .bytes .len)) write-taken
+        let i = a .file .file .ok in
+        update-changes img k o (i .kind) (i .stands) (w .offset) (part d (w .bytes .at) (w .bytes .len)) write-accepted
 
-  done-grown : (f : Frame) (x : Decision) → From img s f (part cmd (f .from) (f .lc)) x
+  done-grown : (f : Frame) (x : Action) → From img s f (part cmd (f .from) (f .lc)) x
       → let u = done x img s (part cmd (f .from) (f .lc)) buf in Grown img (u .image) (λ k. addedBy k img s cmd (u .answer .status) (Good f))
-  unfolding done says every
+  unfolding done says allOf
   done-grown f (Status w) h = grown-none img o refl (by-status img s cmd f w h)
-  done-grown f (Enter a) h = grown-none img o refl (by-pair img s cmd f 0x9000 0x00 0xA4 (h .0) refl)
-  done-grown f (Choose g) h = grown-none img o refl (by-pair img s cmd f 0x9000 0x00 0xA4 (h .0) refl)
-  done-grown f (Bytes g a n) h = grown-none img o refl (by-pair img s cmd f 0x9000 0x00 0xB0 (h .0) refl)
-  done-grown f (Write g w) h =
-      grown-changed img o _ (kindOf g) (written img s g (h .1 .file) .kind) (write-changes g w _ (h .1)) (by-pair img s cmd f 0x9000 0x00 0xD7 (h .0) refl)
-  done-grown f (Activate g) h =
-      let i = written img s g (h .1) in
-      grown-changed img o _ (kindOf g) (i .kind) (activate-changes img (kindOf g) o (i .kind) (i .stands)) (by-pair img s cmd f 0x9000 0x00 0x44 (h .0) refl)
-  done-grown f (Append r) h = appends-grown f r h
-  done-grown f (Read r a b) h = grown-none img o refl (by-pair img s cmd f 0x9000 0x00 0xB2 (h .pair) refl)
-  done-grown f (Seek r q ne) h = grown-none img o (sought-image _ r q ne) (by-pair img s cmd f (sought img s (part cmd (f .from) (f .lc)) buf r q ne .answer .status) 0x00 0xA2 (h .pair) refl)
+  done-grown f (SelectApplication a) h = grown-none img o refl (by-pair img s cmd f 0x9000 0x00 0xA4 (h .0) refl)
+  done-grown f (SelectFile g) h = grown-none img o refl (by-pair img s cmd f 0x9000 0x00 0xA4 (h .0) refl)
+  done-grown f (ReadBinary t a n) h = grown-none img o refl (by-pair img s cmd f 0x9000 0x00 0xB0 (h .0) refl)
+  done-grown f (UpdateBinary n w) h =
+      grown-changed img o _ (biometricsKind n) (h .1 .file .file .ok .kind) (write-changes n w _ (h .1)) (by-pair img s cmd f 0x9000 0x00 0xD7 (h .0) refl)
+  done-grown f (Activate n) h =
+      let i = h .1 .file .ok in
+      grown-changed img o _ (biometricsKind n) (i .kind) (activate-changes img (biometricsKind n) o (i .kind) (i .stands)) (by-pair img s cmd f 0x9000 0x00 0x44 (h .0) refl)
+  done-grown f (AppendRecord r) h = appends-grown f r h
+  done-grown f (ReadRecord r a b) h = grown-none img o refl (by-pair img s cmd f 0x9000 0x00 0xB2 (h .pair) refl)
+  done-grown f (SearchRecord r q ne) h = grown-none img o (searched-image _ r q ne) (by-pair img s cmd f (searched img s (part cmd (f .from) (f .lc)) buf r q ne .answer .status) 0x00 0xA2 (h .pair) refl)
   done-grown f (Report g p2) h = grown-none img o refl (by-pair img s cmd f 0x9000 0x80 0x5E (h .0) refl)
 
-  shape-grown : (a : Apdu) (x : Decision) → FromShape img s cmd a x
+  shape-grown : (a : Apdu) (x : Action) → FromShape img s cmd a x
       → let u = done x img s (dataBy cmd a) buf in Grown img (u .image) (λ k. addedBy k img s cmd (u .answer .status) a)
   unfolding done says
-  shape-grown Bad x h = grown-none img o (ap (λ (y : Decision). done y img s [] buf .image) h) (λ k. refl)
+  shape-grown Bad x h = grown-none img o (ap (λ (y : Action). done y img s [] buf .image) h) (λ k. refl)
   shape-grown (Good f) x h = done-grown f x h
 
-  -- a refusal changes nothing and has status 0
-  refused-none : (a : Apdu) (k : ℕ) → addedBy k img s cmd 0 a ≡ []
-  refused-none Bad k = refl
-  refused-none (Good f) k = by-status img s cmd f 0 refl k
-
-  taken-grown : (x : Refusal) → let u = taken x img s cmd buf in Grown img (u .image) (λ k. addedBy k img s cmd (u .answer .status) (shapeOf cmd))
-  unfolding taken dataOf
-  taken-grown Taken = shape-grown (shapeOf cmd) (decide img s cmd) (decide-from img s cmd)
-  taken-grown ShortBuffer = grown-none img o refl (refused-none (shapeOf cmd))
-  taken-grown BadImage = grown-none img o refl (refused-none (shapeOf cmd))
-  taken-grown BadRights = grown-none img o refl (refused-none (shapeOf cmd))
-  taken-grown BadSession = grown-none img o refl (refused-none (shapeOf cmd))
+  stepBy-grown : (x : Verdict) → let u = stepBy x img s cmd buf in Grown img (u .image) (λ k. addedBy k img s cmd (u .answer .status) (shapeOf cmd))
+  unfolding stepBy dataOf
+  stepBy-grown Accepted = shape-grown (shapeOf cmd) (decide img s cmd) (decide-from img s cmd)
+  stepBy-grown (Refused r) = grown-none img o refl (refused-none img s cmd (shapeOf cmd))
 
 -- ---- a move
 
-move-grown : (img list t : List ℕ) → wellFormed img ≡ true → Grown img (goesOn (carry img list (length t)) (carryInto img list t) img) (λ k. [])
-move-grown img list t o = go (carry img list (length t)) refl
+move-grown : (img list t : List ℕ) → wellFormed img ≡ true → Grown img (imageAfterMove (moveCard img list (length t)) (moveCardInto img list t) img) (λ k. [])
+move-grown img list t o = go (moveCard img list (length t)) refl
   where
-    go : (m : Moved) → carry img list (length t) ≡ m → Grown img (goesOn m (carryInto img list t) img) (λ k. [])
-    go (Refused w) e = grown-none img o refl (λ k. refl)
+    go : (m : Moved) → moveCard img list (length t) ≡ m → Grown img (imageAfterMove m (moveCardInto img list t) img) (λ k. [])
+    go (MoveRefused w) e = grown-none img o refl (λ k. refl)
     go (Image n) e =
-        let c = carries img list t n e in
+        let c = move-done img list t n e in
         record { well = c .well; files = c .files; records = λ k b. c .records k b ∙ sym (append-nil (recordsOf img k)) }
 
 -- ---- calls, one after the other
 
-pub call-grown : (img : List ℕ) (c : Call) → wellFormed img ≡ true → Grown img (next img c) (λ k. added k img c)
-unfolding next added step
+pub call-grown : (img : List ℕ) (c : Call) → wellFormed img ≡ true → Grown img (afterCall img c) (λ k. added k img c)
+unfolding afterCall added step
 call-grown img (Open rights) o = grown-none img o refl (λ k. refl)
-call-grown img (Command s cmd buf) o = taken-grown img s cmd buf o (refusal img s (length buf))
+call-grown img (Command s cmd buf) o = stepBy-grown img s cmd buf o (verdictOn img s (length buf))
 call-grown img (Move list t) o = move-grown img list t o
 
 pub calls-held : Holds
@@ -239,19 +226,19 @@ unfolding after additions history
 calls-held img [] o = record { well = o; files = λ k h. h; records = λ k b. sym (append-nil (recordsOf img k)) }
 calls-held img (c ∷ cs) o =
     let g = call-grown img c o in
-    let h = calls-held (next img c) cs (g .well) in
+    let h = calls-held (afterCall img c) cs (g .well) in
     record {
       well = h .well;
       files = λ k y. h .files k (g .files k y);
       records = λ k b. h .records k b
-          ∙ ap (λ (l : List (List ℕ)). l ++ additions k (next img c) cs) (g .records k b)
-          ∙ append-assoc (recordsOf img k) (added k img c) (additions k (next img c) cs);
+          ∙ ap (λ (l : List (List ℕ)). l ++ additions k (afterCall img c) cs) (g .records k b)
+          ∙ append-assoc (recordsOf img k) (added k img c) (additions k (afterCall img c) cs);
     }
 
 after-append : (img : List ℕ) (cs ds : List Call) → after img (cs ++ ds) ≡ after (after img cs) ds
 unfolding after
 after-append img [] ds = refl
-after-append img (c ∷ cs) ds = after-append (next img c) cs ds
+after-append img (c ∷ cs) ds = after-append (afterCall img c) cs ds
 
 pub number-kept : Number-kept
 unfolding history

@@ -1,43 +1,46 @@
--- What a call keeps, whatever it answers.
+-- What a call keeps, whatever it answers. Read ../specs/Promises.antt, section 1, before. Exports `step-kept`, `put-rest`.
 use Prim.Native.Nat.{ℕ, _+_}
 use mathlib.Core.Path.{_≡_, refl, sym, ap, _∙_}
+use mathlib.Core.Bool.{Bool}
 use mathlib.Core.List.{List, [], _∷_, _++_, List·Memᴰ, List·Memᴰ·head, List·Memᴰ·tail}
 use native.Mathlib.Omega.{arith}
 use lib.ListN.{length, drop, length-append}
 use lib.Seq.{length-sets}
-use lib.Dec.{ltb}
-use Rattle.base.specs.Bytes.{fits, put}
-use Rattle.base.proofs.Cases.{pick-ind}
+use lib.Dec.{ltb, eqb}
+use Rattle.base.specs.Bytes.{putFits, put}
+use Rattle.base.proofs.Cases.{ifElse-ind}
 use Rattle.base.proofs.Runs.{drop-sets-past}
-use Rattle.store.specs.Image.{wellFormed}
-use Rattle.session.specs.Session.{fits as sessionFits}
-use Rattle.session.specs.Refusals.{numberOf, refusal}
-use Rattle.session.specs.declared.Session.{Session}
-use Rattle.session.specs.declared.Refusal.{Refusal}
-use Rattle.session.specs.declared.Refusal.the-variants.{Taken, ShortBuffer, BadImage, BadRights, BadSession}
-use Rattle.session.proofs.Steps.{in-order}
-use Rattle.commands.specs.Decide.{decide, dataOf}
-use Rattle.decision.specs.declared.Decision.{Decision}
-use Rattle.decision.specs.declared.Decision.the-variants.{Status, Enter, Choose, Bytes, Write, Activate, Append, Read, Seek, Report}
-use Rattle.effects.specs.Outcome.{outcome, refused, word, says}
-use Rattle.machine.specs.Effects.{sought, done}
-use Rattle.machine.specs.Step.{taken, step}
+use Rattle.store_image.specs.Image.{wellFormed, recordsOf}
+use Rattle.machine_session.specs.Session.{sessionFits}
+use Rattle.machine_session.specs.Verdict.{refusalNumber, verdictNumber, verdict}
+use Rattle.machine_session.specs.declared.Session.{Session}
+use Rattle.machine_session.specs.declared.Refusal.{Refusal}
+use Rattle.machine_session.specs.declared.Refusal.the-variants.{ShortBuffer, BadImage, BadRights, BadSession}
+use Rattle.machine_session.specs.declared.Verdict.{Verdict}
+use Rattle.machine_session.specs.declared.Verdict.the-variants.{Accepted, Refused}
+use Rattle.machine_record.specs.SearchRecord.{searchStatus}
+use Rattle.machine_dispatch.specs.Decide.{decide, dataOf}
+use Rattle.machine_action.specs.declared.Action.{Action}
+use Rattle.machine_action.specs.declared.Action.the-variants.{Status, SelectApplication, SelectFile, ReadBinary, UpdateBinary, Activate, AppendRecord, ReadRecord, SearchRecord, Report}
+use Rattle.machine_answer.specs.Outcome.{outcome, refused, word, says}
+use Rattle.machine.specs.Effects.{searched, done}
+use Rattle.machine.specs.Step.{verdictOn, stepBy, step}
 use Rattle.promises.specs.Promises.{Kept, Says-no}
 
 -- a run stored at the start changes nothing behind it
 pub put-rest : (buf vs : List ℕ) → drop (length vs) (put buf 0 vs) ≡ drop (length vs) buf
 unfolding put
 put-rest buf vs =
-    pick-ind (λ (l : List ℕ). drop (length vs) l ≡ drop (length vs) buf) (fits buf 0 vs) (λ e. drop-sets-past (length vs) buf 0 vs (omega arith)) (λ e. refl)
+    ifElse-ind (λ (l : List ℕ). drop (length vs) l ≡ drop (length vs) buf) (putFits buf 0 vs) (λ e. drop-sets-past (length vs) buf 0 vs (omega arith)) (λ e. refl)
 
 put-size : (buf vs : List ℕ) → length (put buf 0 vs) ≡ length buf
 unfolding put
-put-size buf vs = pick-ind (λ (l : List ℕ). length l ≡ length buf) (fits buf 0 vs) (λ e. length-sets buf 0 vs) (λ e. refl)
+put-size buf vs = ifElse-ind (λ (l : List ℕ). length l ≡ length buf) (putFits buf 0 vs) (λ e. length-sets buf 0 vs) (λ e. refl)
 
 module _ (img : List ℕ) (s : Session) (buf : List ℕ) where
   -- an answer with a status word, perhaps another image and another session
   says-kept : (w : ℕ) (dat : List ℕ) (t : Session) (im : List ℕ) → ((w ≡ 0x9000 → ⊥) → im ≡ img) → ((w ≡ 0x9000 → ⊥) → t ≡ s) → Kept img s buf (says w dat t im buf)
-  unfolding says word numberOf
+  unfolding says word verdictNumber
   says-kept w dat t im i j =
       record {
         image-kept = i;
@@ -58,21 +61,22 @@ module _ (img : List ℕ) (s : Session) (buf : List ℕ) where
   effect-kept : (dat : List ℕ) (t : Session) (im : List ℕ) → Kept img s buf (says 0x9000 dat t im buf)
   effect-kept dat t im = says-kept 0x9000 dat t im (λ h. absurd (h refl)) (λ h. absurd (h refl))
 
-  done-kept : (x : Decision) (d : List ℕ) → Kept img s buf (done x img s d buf)
-  unfolding done sought
+  done-kept : (x : Action) (d : List ℕ) → Kept img s buf (done x img s d buf)
+  unfolding done searched
   done-kept (Status w) d = word-kept w
-  done-kept (Enter a) d = effect-kept _ _ _
-  done-kept (Choose f) d = effect-kept _ _ _
-  done-kept (Bytes f o n) d = effect-kept _ _ _
-  done-kept (Write f w) d = effect-kept _ _ _
-  done-kept (Activate f) d = effect-kept _ _ _
-  done-kept (Append r) d = effect-kept _ _ _
-  done-kept (Read r a b) d = effect-kept _ _ _
-  done-kept (Seek r q ne) d = in-order (Kept img s buf) _ _ (word-kept 0x6282, (word-kept 0x6700, tt)) (λ p. effect-kept _ _ _)
+  done-kept (SelectApplication a) d = effect-kept _ _ _
+  done-kept (SelectFile f) d = effect-kept _ _ _
+  done-kept (ReadBinary t o n) d = effect-kept _ _ _
+  done-kept (UpdateBinary n w) d = effect-kept _ _ _
+  done-kept (Activate n) d = effect-kept _ _ _
+  done-kept (AppendRecord r) d = effect-kept _ _ _
+  done-kept (ReadRecord r a b) d = effect-kept _ _ _
+  done-kept (SearchRecord r q ne) d = ifElse-ind (Kept img s buf) (eqb (searchStatus (recordsOf img (r .kind)) d q ne) 0x9000) (λ e. effect-kept _ _ _) (λ e. word-kept _)
   done-kept (Report f p2) d = effect-kept _ _ _
 
-  refused-kept : (x : Refusal) → List·Memᴰ (numberOf x) (0 ∷ 1 ∷ 2 ∷ 4 ∷ []) → Kept img s buf (outcome (refused x s) img buf)
-  refused-kept x h =
+  refused-kept : (r : Refusal) → List·Memᴰ (refusalNumber r) (0 ∷ 1 ∷ 2 ∷ 4 ∷ []) → Kept img s buf (outcome (refused r s) img buf)
+  unfolding verdictNumber
+  refused-kept r h =
       record {
         image-kept = λ e. refl;
         session-kept = λ e. refl;
@@ -83,24 +87,25 @@ module _ (img : List ℕ) (s : Session) (buf : List ℕ) where
       }
 
   -- number 3 is no command's
-  taken-kept : (x : Refusal) (cmd : List ℕ) → (numberOf x ≡ 3 → ⊥) → Kept img s buf (taken x img s cmd buf)
-  unfolding taken numberOf
-  taken-kept Taken cmd n = done-kept (decide img s cmd) (dataOf cmd)
-  taken-kept ShortBuffer cmd n = refused-kept ShortBuffer (List·Memᴰ·tail (List·Memᴰ·head refl))
-  taken-kept BadImage cmd n = refused-kept BadImage (List·Memᴰ·tail (List·Memᴰ·tail (List·Memᴰ·head refl)))
-  taken-kept BadRights cmd n = absurd (n refl)
-  taken-kept BadSession cmd n = refused-kept BadSession (List·Memᴰ·tail (List·Memᴰ·tail (List·Memᴰ·tail (List·Memᴰ·head refl))))
+  stepBy-kept : (x : Verdict) (cmd : List ℕ) → (verdictNumber x ≡ 3 → ⊥) → Kept img s buf (stepBy x img s cmd buf)
+  unfolding stepBy verdictNumber refusalNumber
+  stepBy-kept Accepted cmd n = done-kept (decide img s cmd) (dataOf cmd)
+  stepBy-kept (Refused ShortBuffer) cmd n = refused-kept ShortBuffer (List·Memᴰ·tail (List·Memᴰ·head refl))
+  stepBy-kept (Refused BadImage) cmd n = refused-kept BadImage (List·Memᴰ·tail (List·Memᴰ·tail (List·Memᴰ·head refl)))
+  stepBy-kept (Refused BadRights) cmd n = absurd (n refl)
+  stepBy-kept (Refused BadSession) cmd n = refused-kept BadSession (List·Memᴰ·tail (List·Memᴰ·tail (List·Memᴰ·tail (List·Memᴰ·head refl))))
 
-  not-rights : numberOf (refusal img s (length buf)) ≡ 3 → ⊥
-  unfolding refusal numberOf
-  not-rights =
-      let P : Refusal → Type 0 = λ x. numberOf x ≡ 3 → ⊥ in
-      pick-ind P (ltb (length buf) 2050)
-      (λ _ z. omega (arith, z))
-      (λ _. pick-ind P (wellFormed img)
-      (λ _. pick-ind P (sessionFits img s) (λ _ z. omega (arith, z)) (λ _ z. omega (arith, z)))
-      (λ _ z. omega (arith, z)))
+pub verdict-not-rights : (img : List ℕ) (fits : Bool) (n : ℕ) → verdictNumber (verdict img fits n) ≡ 3 → ⊥
+unfolding verdict verdictNumber refusalNumber
+verdict-not-rights img fits n =
+    let P : Verdict → Type 0 = λ x. verdictNumber x ≡ 3 → ⊥ in
+    ifElse-ind P (ltb n 2050)
+    (λ _ z. omega (arith, z))
+    (λ _. ifElse-ind P (wellFormed img)
+    (λ _. ifElse-ind P fits (λ _ z. omega (arith, z)) (λ _ z. omega (arith, z)))
+    (λ _ z. omega (arith, z)))
 
 pub step-kept : Says-no
 unfolding step
-step-kept img s cmd buf = taken-kept img s buf (refusal img s (length buf)) cmd (not-rights img s buf)
+step-kept img s cmd buf =
+    stepBy-kept img s buf (verdictOn img s (length buf)) cmd (verdict-not-rights img (sessionFits img s) (length buf))

@@ -1,12 +1,12 @@
 -- The theorems: each proves the promise of its name in ../specs/Promises.antt, ../specs/Done.antt or ../specs/Linked.antt.
 use mathlib.Core.Path.{sym, _∙_}
-use Rattle.promises.specs.Promises.{Says-no, Gets-word, Opens, Holds, Number-kept, Reads-history, Leaves-none-out, Only-searches, Search-refused, Stays-taken, Answer-fits, Opening-fits, One-outcome, One-opening, Session-bytes, Opening-bytes, Result-whole, Move-says-no, Carries, Same-sizes, Move-twice, One-move, Move-whole}
+use Rattle.promises.specs.Promises.{Says-no, Gets-word, Opens, Holds, Number-kept, Reads-history, Leaves-none-out, Only-searches, Search-refused, Stays-accepted, Answer-fits, Opening-fits, One-outcome, One-opening, Session-bytes, Opening-bytes, Result-whole, Move-says-no, Move-done, Same-sizes, Move-twice, One-move, Move-whole}
 use Rattle.promises.specs.Done.{Append-done, Update-done, Activate-done, Read-done, Select-done, Fmm-done}
-use Rattle.promises.specs.Linked.{C-sees, C-says-no, C-gets-word, C-holds, C-number-kept, C-reads-history, C-leaves-none-out, C-opens, C-moves}
+use Rattle.promises.specs.Linked.{C-sees, C-malformed, C-says-no, C-gets-word, C-holds, C-number-kept, C-reads-history, C-leaves-none-out, C-opens, C-moves}
 use Rattle.promises.proofs.Keeping.{step-kept}
 use Rattle.promises.proofs.Opening.{opening-opened}
-use Rattle.moving.proofs.Carrying.{numbered}
-use Rattle.carried.proofs.Laws.{refused-target}
+use Rattle.store_move.proofs.Moves.{moveCard-numbered}
+use Rattle.store_move_laws.proofs.Laws.{refused-target}
 use Rattle.promises.proofs.Saying as saying
 use Rattle.promises.proofs.Doing as doing
 use Rattle.promises.proofs.Moving as moving
@@ -45,8 +45,8 @@ only-searches = deciding.only-searches
 pub search-refused : Search-refused
 search-refused = deciding.search-refused
 
-pub stays-taken : Stays-taken
-stays-taken = fitting.stays-taken
+pub stays-accepted : Stays-accepted
+stays-accepted = fitting.stays-accepted
 
 pub answer-fits : Answer-fits
 answer-fits = fitting.answer-fits
@@ -72,8 +72,8 @@ result-whole = linking.result-whole
 pub move-says-no : Move-says-no
 move-says-no = refused-target
 
-pub carries : Carries
-carries = moving.carries
+pub move-done : Move-done
+move-done = moving.move-done
 
 pub same-sizes : Same-sizes
 same-sizes = moving.same
@@ -85,7 +85,7 @@ pub one-move : One-move
 one-move old list t m p a b e f = (e .0 ∙ sym (f .0), e .1 ∙ sym (f .1))
 
 pub move-whole : Move-whole
-move-whole = numbered
+move-whole = moveCard-numbered
 
 pub append-done : Append-done
 append-done = doing.append-done
@@ -107,6 +107,9 @@ fmm-done = doing.fmm-done
 
 pub c-sees : C-sees
 c-sees = calling.c-sees
+
+pub c-malformed : C-malformed
+c-malformed = calling.c-malformed
 
 pub c-says-no : C-says-no
 c-says-no = calling.c-says-no

@@ -6,45 +6,42 @@ use mathlib.Core.List.{List, [], _∷_}
 use native.Mathlib.Omega.{arith}
 use lib.ListN.{length, take}
 use lib.Seq.{take-all}
-use lib.Dec.{eqb}
+use lib.Dec.{leb, eqb}
 use borrow.Author.Tests.{eqb-true, eq-eqb, ne-eqb, leb-true, ltb-true}
-use Rattle.base.specs.Choice.{pick, every}
+use Rattle.base.specs.Choice.{ifElse, allOf}
 use Rattle.base.specs.Bytes.{part}
-use Rattle.base.proofs.Cases.{by-cases, false-true}
-use Rattle.records.specs.Body.{count, nth}
-use Rattle.bodies.specs.Rules.{isBiometrics}
-use Rattle.store.specs.Image.{body, wellFormed, recordsOf}
-use Rattle.bodies.specs.declared.rules.Key.the-variants.{Kind}
-use Rattle.bodies.specs.declared.rules.Rule.{Rule}
-use Rattle.bodies.specs.declared.rules.Ruled.the-variants.{Is, Nothing}
-use Rattle.store.proofs.Laws.{rule-regular, biometrics-unruled, records-count, record-file, record-size}
-use Rattle.files.specs.declared.File.the-variants.{Records}
-use Rattle.session.specs.declared.Session.{Session}
-use Rattle.session.specs.declared.Task.{Task}
-use Rattle.session.specs.declared.Task.the-variants.{ReadRecords}
-use Rattle.session.proofs.Steps.{FileReached}
-use Rattle.apdu.specs.declared.Apdu.{Apdu}
-use Rattle.apdu.specs.declared.Frame.{Frame}
-use Rattle.commands.specs.Decide.{decide, dataBy, dataOf}
-use Rattle.decision.specs.declared.Decision.{Decision}
-use Rattle.decision.specs.declared.Decision.the-variants.{Status, Enter, Choose, Bytes, Write, Activate, Append, Read, Seek, Report}
-use Rattle.commands.proofs.Allowing.{Pair, From, FromShape, ReadBy, decide-from}
-use Rattle.joined.specs.Joined.{recordsData}
-use Rattle.joined.proofs.Joining.{joined-one}
-use Rattle.joined.proofs.Joining.{records-bound}
-use Rattle.effects.specs.Outcome.{Outcome, says}
+use Rattle.base.proofs.Cases.{by-cases, false-true, allOf-facts}
+use Rattle.store_records.specs.Body.{count, nth}
+use Rattle.store_kinds.specs.Rules.{isBiometrics}
+use Rattle.store_image.specs.Image.{body, wellFormed, recordsOf}
+use Rattle.store_kinds.specs.declared.rules.Key.the-variants.{Kind}
+use Rattle.store_kinds.specs.declared.rules.Rule.{Rule}
+use Rattle.store_kinds.specs.declared.rules.Ruled.the-variants.{Is, Nothing}
+use Rattle.store_image.proofs.Laws.{rule-regular, biometrics-unruled, records-count, record-file, record-size}
+use Rattle.store_files.specs.Loops.{Stored}
+use Rattle.machine_session.specs.declared.Session.{Session}
+use Rattle.machine_apdu.specs.declared.Apdu.{Apdu}
+use Rattle.machine_apdu.specs.declared.Frame.{Frame}
+use Rattle.machine_dispatch.specs.Decide.{decide, dataBy, dataOf}
+use Rattle.machine_action.specs.declared.Action.{Action}
+use Rattle.machine_action.specs.declared.Action.the-variants.{Status, SelectApplication, SelectFile, ReadBinary, UpdateBinary, Activate, AppendRecord, ReadRecord, SearchRecord, Report}
+use Rattle.machine_dispatch.proofs.Allowing.{Pair, From, FromShape, ReadBy, decide-from}
+use Rattle.machine_reply_record.specs.Joined.{recordsData}
+use Rattle.machine_reply_record.proofs.Joining.{joined-one}
+use Rattle.machine_reply_record.proofs.Joining.{records-bound}
+use Rattle.machine_answer.specs.Outcome.{Outcome, says}
 use Rattle.machine.specs.Effects.{done}
 use Rattle.machine.specs.Step.{step}
 use Rattle.promises.specs.Calls.{after, isPair, history}
 use Rattle.promises.specs.Promises.{dataIn, Reads, Reads-history}
-use Rattle.promises.proofs.Answering.{data-said, step-taken, taken-room, status-taken}
+use Rattle.promises.proofs.Answering.{data-said, step-accepted, accepted-room, status-accepted}
 use Rattle.promises.proofs.Growing.{calls-held}
 
--- a record file that is reached is no biometrics file
-pub reached-records : (img : List ℕ) (s : Session) (t : Task) (r : Rule) → FileReached img s t (Records r) → isBiometrics (r .kind) ≡ false
-reached-records img s t r f =
+-- a record file is no biometrics file
+pub stored-records : (img : List ℕ) (r : Rule) → Stored img r → isBiometrics (r .kind) ≡ false
+stored-records img r f =
     by-cases (isBiometrics (r .kind))
-    (λ b. absurd (is-not (sym (biometrics-unruled (r .kind) b) ∙ f .ok .by-kind)))
+    (λ b. absurd (is-not (sym (biometrics-unruled (r .kind) b) ∙ f .by-kind)))
     (λ b. b)
   where
     is-not : Nothing ≡ Is r → ⊥
@@ -55,28 +52,29 @@ module _ (img : List ℕ) (s : Session) (cmd buf : List ℕ) (f : Frame) (o : we
   d = part cmd (f .from) (f .lc)
 
   -- one record is shorter than the cut
-  whole : (r : Rule) (n : ℕ) → FileReached img s ReadRecords (Records r) → 1 ≤ n → n ≤ count (body img (r .kind)) → recordsData (recordsOf img (r .kind)) n n ≡ nth (recordsOf img (r .kind)) n
+  whole : (r : Rule) (n : ℕ) → Stored img r → 1 ≤ n → n ≤ count (body img (r .kind)) → recordsData (recordsOf img (r .kind)) n n ≡ nth (recordsOf img (r .kind)) n
   unfolding recordsData recordsOf
   whole r n g l h =
-      let b = record-file img (r .kind) r o (g .ok .by-kind) (g .ok .stands) in
+      let b = record-file img (r .kind) r o (g .by-kind) (g .stands) in
       let z = record-size (r .longest) (r .most) (body img (r .kind)) b n l h in
-      let m = rule-regular (Kind (r .kind)) r (g .ok .by-kind) in
+      let m = rule-regular (Kind (r .kind)) r (g .by-kind) in
       ap (take 2048) (joined-one (recordsOf img (r .kind)) n l) ∙ take-all 2048 (nth (recordsOf img (r .kind)) n) (omega (arith, z .1, m .long))
 
   -- what is answered, and of which records
-  read-said : (r : Rule) (a b : ℕ) → dataIn (done (Read r a b) img s d buf) ≡ recordsData (recordsOf img (r .kind)) a b
+  read-said : (r : Rule) (a b : ℕ) → dataIn (done (ReadRecord r a b) img s d buf) ≡ recordsData (recordsOf img (r .kind)) a b
   unfolding done
   read-said r a b = data-said 0x9000 (recordsData (recordsOf img (r .kind)) a b) _ img buf (records-bound (recordsOf img (r .kind)) a b) room
 
   -- by the records that the file has
-  reads : (rs : ℕ → List (List ℕ)) → ((k : ℕ) → isBiometrics k ≡ false → recordsOf img k ≡ rs k) → (r : Rule) (a b : ℕ) → ReadBy img s f r a b → Reads img s f rs (done (Read r a b) img s d buf)
+  reads : (rs : ℕ → List (List ℕ)) → ((k : ℕ) → isBiometrics k ≡ false → recordsOf img k ≡ rs k) → (r : Rule) (a b : ℕ) → ReadBy img s f r a b → Reads img s f rs (done (ReadRecord r a b) img s d buf)
   unfolding recordsOf
   reads rs same r a b h =
-      let g = h .readable .file in
-      let e = same (r .kind) (reached-records img s ReadRecords r g) in
+      let g = h .file .file .ok in
+      let t = allOf-facts (leb 1 a ∷ leb a (count (body img (r .kind))) ∷ []) (h .there) in
+      let e = same (r .kind) (stored-records img r g) in
       let c : length (recordsOf img (r .kind)) ≡ count (body img (r .kind)) = records-count (body img (r .kind)) in
-      let l = leb-true 1 a (h .readable .first) in
-      let m = leb-true a (count (body img (r .kind))) (h .readable .last) in
+      let l = leb-true 1 a (t .0) in
+      let m = leb-true a (count (body img (r .kind))) (t .1 .0) in
       let n : length (recordsOf img (r .kind)) ≡ length (rs (r .kind)) = ap length e in
       record {
         rule = r;
@@ -85,44 +83,44 @@ module _ (img : List ℕ) (s : Session) (cmd buf : List ℕ) (f : Frame) (o : we
         named = h .first;
         low = l;
         high = omega arith;
-        one = λ t. let u : b ≡ a = h .last ∙ ap (λ (x : Bool). pick x a (count (body img (r .kind)))) (eq-eqb _ _ t) in
+        one = λ t. let u : b ≡ a = h .last ∙ ap (λ (x : Bool). ifElse x a (count (body img (r .kind)))) (eq-eqb _ _ t) in
             read-said r a b
             ∙ ap (recordsData (recordsOf img (r .kind)) a) u
             ∙ whole r a g l m
             ∙ ap (λ (z : List (List ℕ)). nth z a) e;
-        onward = λ t. let u : b ≡ length (rs (r .kind)) = h .last ∙ ap (λ (x : Bool). pick x a (count (body img (r .kind)))) (ne-eqb _ _ t) ∙ sym c ∙ n in
+        onward = λ t. let u : b ≡ length (rs (r .kind)) = h .last ∙ ap (λ (x : Bool). ifElse x a (count (body img (r .kind)))) (ne-eqb _ _ t) ∙ sym c ∙ n in
             read-said r a b ∙ ap₂ (λ (z : List (List ℕ)) (k : ℕ). recordsData z a k) e u;
       }
 
   -- a READ RECORD that is answered 9000 came to reading records
-  other : {A : Type 0} (c i : ℕ) → Pair f c i → isPair f 0x00 0xB2 ≡ true → every (eqb c 0x00 ∷ eqb i 0xB2 ∷ []) ≡ false → A
+  other : {A : Type 0} (c i : ℕ) → Pair f c i → isPair f 0x00 0xB2 ≡ true → allOf (eqb c 0x00 ∷ eqb i 0xB2 ∷ []) ≡ false → A
   unfolding isPair
   other c i p q e =
       false-true
-      (sym e ∙ sym (ap₂ (λ (x y : ℕ). every (eqb x 0x00 ∷ eqb y 0xB2 ∷ [])) (eqb-true (f .header .cla) c (p .0)) (eqb-true (f .header .ins) i (p .1))) ∙ q)
+      (sym e ∙ sym (ap₂ (λ (x y : ℕ). allOf (eqb x 0x00 ∷ eqb y 0xB2 ∷ [])) (eqb-true (f .header .cla) c (p .0)) (eqb-true (f .header .ins) i (p .1))) ∙ q)
 
-  read-decided : (rs : ℕ → List (List ℕ)) → ((k : ℕ) → isBiometrics k ≡ false → recordsOf img k ≡ rs k) → isPair f 0x00 0xB2 ≡ true → (x : Decision) → From img s f d x
+  read-decided : (rs : ℕ → List (List ℕ)) → ((k : ℕ) → isBiometrics k ≡ false → recordsOf img k ≡ rs k) → isPair f 0x00 0xB2 ≡ true → (x : Action) → From img s f d x
       → done x img s d buf .answer .status ≡ 0x9000 → Reads img s f rs (done x img s d buf)
-  unfolding every
+  unfolding allOf
   read-decided rs same q (Status w) h e = let z : w ≡ 0x9000 = unfold done says in e in absurd (omega (arith, ltb-true w 0x9000 h))
-  read-decided rs same q (Enter a) h e = other 0x00 0xA4 (h .0) q refl
-  read-decided rs same q (Choose g) h e = other 0x00 0xA4 (h .0) q refl
-  read-decided rs same q (Bytes g a n) h e = other 0x00 0xB0 (h .0) q refl
-  read-decided rs same q (Write g w) h e = other 0x00 0xD7 (h .0) q refl
-  read-decided rs same q (Activate g) h e = other 0x00 0x44 (h .0) q refl
-  read-decided rs same q (Append r) h e = other 0x00 0xE2 (h .0) q refl
-  read-decided rs same q (Read r a b) h e = reads rs same r a b h
-  read-decided rs same q (Seek r a n) h e = other 0x00 0xA2 (h .pair) q refl
+  read-decided rs same q (SelectApplication a) h e = other 0x00 0xA4 (h .0) q refl
+  read-decided rs same q (SelectFile g) h e = other 0x00 0xA4 (h .0) q refl
+  read-decided rs same q (ReadBinary t a n) h e = other 0x00 0xB0 (h .0) q refl
+  read-decided rs same q (UpdateBinary n w) h e = other 0x00 0xD7 (h .0) q refl
+  read-decided rs same q (Activate n) h e = other 0x00 0x44 (h .0) q refl
+  read-decided rs same q (AppendRecord r) h e = other 0x00 0xE2 (h .0) q refl
+  read-decided rs same q (ReadRecord r a b) h e = reads rs same r a b h
+  read-decided rs same q (SearchRecord r x ne) h e = other 0x00 0xA2 (h .pair) q refl
   read-decided rs same q (Report g n) h e = other 0x80 0x5E (h .0) q refl
 
 pub reads-history : Reads-history
 reads-history img calls s cmd buf f o e q t =
     let now = after img calls in
     let h = calls-held img calls o in
-    let x = status-taken now s cmd buf t in
+    let x = status-accepted now s cmd buf t in
     let u : step now s cmd buf ≡ done (decide now s cmd) now s (part cmd (f .from) (f .lc)) buf =
-    step-taken now s cmd buf x ∙ ap (λ (l : List ℕ). done (decide now s cmd) now s l buf) (unfold dataOf in ap (dataBy cmd) e) in
+    step-accepted now s cmd buf x ∙ ap (λ (l : List ℕ). done (decide now s cmd) now s l buf) (unfold dataOf in ap (dataBy cmd) e) in
     let c : From now s f (part cmd (f .from) (f .lc)) (decide now s cmd) = subst (λ (a : Apdu). FromShape now s cmd a (decide now s cmd)) e (decide-from now s cmd) in
     subst (Reads now s f (λ k. history k img calls)) (sym u)
-    (read-decided now s cmd buf f (h .well) (taken-room now s buf x) (λ k. history k img calls) (h .records) q (decide now s cmd) c
+    (read-decided now s cmd buf f (h .well) (accepted-room now s buf x) (λ k. history k img calls) (h .records) q (decide now s cmd) c
     (sym (ap (λ (z : Outcome). z .answer .status) u) ∙ t))

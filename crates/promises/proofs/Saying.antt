@@ -1,4 +1,4 @@
--- A command that is not refused gets data and a status word of document 01 (`gets-word`), in at most 2,050 bytes.
+-- An accepted command gets data and one of the status words (`gets-word`), in at most 2,050 bytes.
 -- Read before: ../specs/Promises.antt, section 1.
 use Prim.Native.Nat.{ℕ, _+_, _-_, _/_, _%_, _≤_}
 use mathlib.Core.Path.{_≡_, refl, sym, ap, ap₂, subst, _∙_}
@@ -8,35 +8,38 @@ use native.Mathlib.Omega.{arith}
 use lib.ListN.{length, drop, length-take, length-append}
 use lib.Dec.{eqb}
 use lib.Seq.{sets, length-sets}
-use Rattle.base.specs.Bytes.{part, put}
-use Rattle.base.proofs.Runs.{put-yes, part-sets, sets-append}
-use Rattle.base.proofs.Cases.{by-cases}
+use Rattle.base.specs.Bytes.{part, put, AllBytes}
+use Rattle.base.proofs.Runs.{put-accepted, part-sets, sets-append}
+use Rattle.base.proofs.Cases.{by-cases, ifElse-ind}
 use borrow.Author.Tests.{eqb-true, eqb-false}
-use Rattle.store.specs.Image.{wellFormed}
-use Rattle.objects.specs.Encoding.{Bytes as AllBytes}
-use Rattle.files.specs.Files.{content}
-use Rattle.session.specs.Refusals.{numberOf, refusal}
-use Rattle.session.specs.declared.Session.{Session}
-use Rattle.session.specs.declared.Refusal.{Refusal}
-use Rattle.session.specs.declared.Refusal.the-variants.{Taken, ShortBuffer, BadImage, BadRights, BadSession}
-use Rattle.session.proofs.Steps.{in-order}
-use Rattle.apdu.specs.Shape.{shapeOf}
-use Rattle.apdu.specs.declared.Apdu.{Apdu}
-use Rattle.apdu.specs.declared.Apdu.the-variants.{Bad, Good}
-use Rattle.apdu.specs.declared.Frame.{Frame}
-use Rattle.commands.specs.Decide.{decide, dataBy, dataOf}
-use Rattle.decision.specs.declared.Decision.{Decision}
-use Rattle.decision.specs.declared.Decision.the-variants.{Status, Enter, Choose, Bytes, Write, Activate, Append, Read, Seek, Report}
-use Rattle.commands.proofs.Allowing.{From, FromShape, decide-from, reference-short, bytes-part}
-use Rattle.joined.proofs.Joining.{records-bound}
-use Rattle.report.proofs.Reporting.{report-bound}
-use Rattle.effects.specs.Outcome.{Outcome, word, says}
-use Rattle.machine.specs.Effects.{sought, done}
-use Rattle.machine.specs.Step.{taken, step}
-use Rattle.machine.proofs.Seeking.{found-short}
+use Rattle.store_image.specs.Image.{wellFormed, recordsOf}
+use Rattle.objects_templates.specs.declared.Search.{Search}
+use Rattle.store_files.specs.Files.{fileBytes}
+use Rattle.machine_session.specs.Verdict.{refusalNumber, verdictNumber, verdict}
+use Rattle.machine_session.specs.declared.Session.{Session}
+use Rattle.machine_session.specs.declared.Refusal.{Refusal}
+use Rattle.machine_session.specs.declared.Refusal.the-variants.{ShortBuffer, BadImage, BadRights, BadSession}
+use Rattle.machine_session.specs.declared.Verdict.{Verdict}
+use Rattle.machine_session.specs.declared.Verdict.the-variants.{Accepted, Refused}
+use Rattle.machine_session.proofs.Steps.{inOrder-each}
+use Rattle.machine_apdu.specs.Shape.{shapeOf}
+use Rattle.machine_apdu.specs.declared.Apdu.{Apdu}
+use Rattle.machine_apdu.specs.declared.Apdu.the-variants.{Bad, Good}
+use Rattle.machine_apdu.specs.declared.Frame.{Frame}
+use Rattle.machine_record.specs.SearchRecord.{searchStatus}
+use Rattle.machine_dispatch.specs.Decide.{decide, dataBy, dataOf}
+use Rattle.machine_action.specs.declared.Action.{Action}
+use Rattle.machine_action.specs.declared.Action.the-variants.{Status, SelectApplication, SelectFile, ReadBinary, UpdateBinary, Activate, AppendRecord, ReadRecord, SearchRecord, Report}
+use Rattle.machine_dispatch.proofs.Allowing.{From, FromShape, decide-from, reference-short, bytes-part}
+use Rattle.machine_reply_record.proofs.Joining.{records-bound}
+use Rattle.machine_reply_fmm.proofs.Reporting.{report-bound}
+use Rattle.machine_answer.specs.Outcome.{Outcome, word, says}
+use Rattle.machine.specs.Effects.{searched, done}
+use Rattle.machine.specs.Step.{verdictOn, stepBy, step}
+use Rattle.machine.proofs.Seeking.{reply-short}
 use Rattle.promises.specs.Words.{words}
 use Rattle.promises.specs.Promises.{Answered, Gets-word}
-use Rattle.promises.proofs.Answering.{taken-well, taken-room}
+use Rattle.promises.proofs.Answering.{accepted-facts, accepted-room}
 use Rattle.promises.proofs.Keeping.{step-kept}
 use Rattle.promises.proofs.Wording.{word-most, refusing-word, Worded, decide-word}
 
@@ -50,7 +53,7 @@ said w dat s img buf r h e =
     long = unfold word in length-append dat (word w)
 
     stored : put buf 0 (dat ++ word w) ≡ sets (sets buf 0 dat) (0 + length dat) (word w)
-    stored = put-yes buf 0 (dat ++ word w) (omega (arith, long)) ∙ sets-append buf 0 dat (word w)
+    stored = put-accepted buf 0 (dat ++ word w) (omega (arith, long)) ∙ sets-append buf 0 dat (word w)
 
     high : w / 256 % 256 ≡ w / 256
     high = omega (arith, word-most w e)
@@ -63,6 +66,12 @@ said w dat s img buf r h e =
         ∙ part-sets (sets buf 0 dat) (0 + length dat) (word w) (omega (arith, length-sets buf 0 dat))
         ∙ ap (λ (k : ℕ). k ∷ w % 256 ∷ []) high
 
+-- the status of a search is one of the words
+search-word : (rs : List (List ℕ)) (d : List ℕ) (q : Search) (ne : ℕ) → List·Memᴰ (searchStatus rs d q ne) words
+unfolding searchStatus words
+search-word rs d q ne =
+    inOrder-each (λ (w : ℕ). List·Memᴰ w words) _ _ (List·Memᴰ·tail (List·Memᴰ·head refl), (refusing-word 0x6700 refl, tt)) (λ p. List·Memᴰ·head refl)
+
 module _ (img : List ℕ) (s : Session) (buf : List ℕ) (o : wellFormed img ≡ true) (room : 2050 ≤ length buf) where
   -- a word alone, and 9000 with data
   alone : (w : ℕ) (t : Session) (im : List ℕ) → List·Memᴰ w words → Answered (says w [] t im buf)
@@ -74,69 +83,67 @@ module _ (img : List ℕ) (s : Session) (buf : List ℕ) (o : wellFormed img ≡
   did : (t : Session) (im : List ℕ) → Answered (says 0x9000 [] t im buf)
   did t im = alone 0x9000 t im (unfold words in List·Memᴰ·head refl)
 
-  done-answered : (f : Frame) (d : List ℕ) (x : Decision) → AllBytes d → From img s f d x → Worded x → Answered (done x img s d buf)
-  unfolding done sought words
+  done-answered : (f : Frame) (d : List ℕ) (x : Action) → AllBytes d → From img s f d x → Worded x → Answered (done x img s d buf)
+  unfolding done searched words
   done-answered f d (Status w) b h k = alone w s img (refusing-word w k)
-  done-answered f d (Enter a) b h k = did _ _
-  done-answered f d (Choose g) b h k = did _ _
-  done-answered f d (Bytes g a n) b h k = with-data _ _ (omega (arith, h .2, length-take n (drop a (content img g))))
-  done-answered f d (Write g w) b h k = did _ _
-  done-answered f d (Activate g) b h k = did _ _
-  done-answered f d (Append r) b h k = did _ _
-  done-answered f d (Read r a z) b h k = with-data _ _ (records-bound _ a z)
-  done-answered f d (Seek r q ne) b h k =
-      in-order Answered _ _ (alone 0x6282 s img (List·Memᴰ·tail (List·Memᴰ·head refl)), (alone 0x6700 s img (refusing-word 0x6700 refl), tt))
-      (λ p. with-data _ _ (found-short img s d r q o (h .file) (reference-short d q (h .asks) b)))
+  done-answered f d (SelectApplication a) b h k = did _ _
+  done-answered f d (SelectFile g) b h k = did _ _
+  done-answered f d (ReadBinary t a n) b h k = with-data _ _ (omega (arith, h .2, length-take n (drop a (fileBytes img t))))
+  done-answered f d (UpdateBinary n w) b h k = did _ _
+  done-answered f d (Activate n) b h k = did _ _
+  done-answered f d (AppendRecord r) b h k = did _ _
+  done-answered f d (ReadRecord r a z) b h k = with-data _ _ (records-bound _ a z)
+  done-answered f d (SearchRecord r q ne) b h k =
+      ifElse-ind Answered (eqb (searchStatus (recordsOf img (r .kind)) d q ne) 0x9000)
+      (λ e. with-data _ _ (reply-short img d r q o (h .file .file .ok) (reference-short d q (h .asks) b)))
+      (λ e. alone _ s img (search-word (recordsOf img (r .kind)) d q ne))
   done-answered f d (Report g p2) b h k = with-data _ _ (report-bound p2 _ _ _)
 
-  shape-answered : (cmd : List ℕ) (a : Apdu) (x : Decision) → AllBytes cmd → FromShape img s cmd a x → Worded x → Answered (done x img s (dataBy cmd a) buf)
+  shape-answered : (cmd : List ℕ) (a : Apdu) (x : Action) → AllBytes cmd → FromShape img s cmd a x → Worded x → Answered (done x img s (dataBy cmd a) buf)
   unfolding done words
-  shape-answered cmd Bad x b h k = subst (λ (y : Decision). Answered (done y img s [] buf)) (sym h) (alone 0x6700 s img (refusing-word 0x6700 refl))
+  shape-answered cmd Bad x b h k = subst (λ (y : Action). Answered (done y img s [] buf)) (sym h) (alone 0x6700 s img (refusing-word 0x6700 refl))
   shape-answered cmd (Good f) x b h k = done-answered f (part cmd (f .from) (f .lc)) x (bytes-part cmd (f .from) (f .lc) b) h k
 
 pub gets-word : Gets-word
 unfolding step
-gets-word img s cmd buf b = go (refusal img s (length buf)) refl
+gets-word img s cmd buf b = go (verdictOn img s (length buf)) refl
   where
-    go : (x : Refusal) → refusal img s (length buf) ≡ x → numberOf (taken x img s cmd buf .answer .refusal) ≡ 0 → Answered (taken x img s cmd buf)
-    go Taken e z =
-        unfold taken dataOf in
-        shape-answered img s buf (taken-well img s (length buf) e .0) (taken-room img s buf e) cmd (shapeOf cmd) (decide img s cmd) b (decide-from img s cmd) (decide-word img s cmd)
-    go ShortBuffer e z = unfold taken numberOf in absurd (omega (arith, z))
-    go BadImage e z = unfold taken numberOf in absurd (omega (arith, z))
-    go BadRights e z = unfold taken numberOf in absurd (omega (arith, z))
-    go BadSession e z = unfold taken numberOf in absurd (omega (arith, z))
+    go : (x : Verdict) → verdictOn img s (length buf) ≡ x → verdictNumber (stepBy x img s cmd buf .answer .verdict) ≡ 0 → Answered (stepBy x img s cmd buf)
+    go Accepted e z =
+        unfold stepBy dataOf in
+        shape-answered img s buf (accepted-facts img s (length buf) e .0) (accepted-room img s buf e) cmd (shapeOf cmd) (decide img s cmd) b (decide-from img s cmd) (decide-word img s cmd)
+    go (Refused ShortBuffer) e z = unfold stepBy verdictNumber refusalNumber in absurd (omega (arith, z))
+    go (Refused BadImage) e z = unfold stepBy verdictNumber refusalNumber in absurd (omega (arith, z))
+    go (Refused BadRights) e z = unfold stepBy verdictNumber refusalNumber in absurd (omega (arith, z))
+    go (Refused BadSession) e z = unfold stepBy verdictNumber refusalNumber in absurd (omega (arith, z))
 
 -- so length and status have bounds, whatever is answered
 pub step-small : (img : List ℕ) (s : Session) (cmd buf : List ℕ) → AllBytes cmd → (step img s cmd buf .answer .length ≤ 2050) × (step img s cmd buf .answer .status ≤ 0x9000)
 step-small img s cmd buf b =
     let a = step img s cmd buf .answer in
-    by-cases (eqb (numberOf (a .refusal)) 0)
+    by-cases (eqb (verdictNumber (a .verdict)) 0)
     (λ y. let h = gets-word img s cmd buf b (eqb-true _ _ y) in (h .data-bounded, word-most _ (h .known)))
-    (λ n. let z = eqb-false (numberOf (a .refusal)) 0 n in
-    let p : 1 ≤ numberOf (a .refusal) = omega (arith, z) in
+    (λ n. let z = eqb-false (verdictNumber (a .verdict)) 0 n in
+    let p : 1 ≤ verdictNumber (a .verdict) = omega (arith, z) in
     let h = step-kept img s cmd buf .refused p in (omega (arith, h .0), omega (arith, h .1)))
 
 -- and the status for any command, bytes or not
 pub step-status : (img : List ℕ) (s : Session) (cmd buf : List ℕ) → step img s cmd buf .answer .status ≤ 0x9000
 unfolding step
-step-status img s cmd buf = go (refusal img s (length buf))
+step-status img s cmd buf = go (verdictOn img s (length buf))
   where
-    by : (x : Decision) (d : List ℕ) → Worded x → done x img s d buf .answer .status ≤ 0x9000
+    by : (x : Action) (d : List ℕ) → Worded x → done x img s d buf .answer .status ≤ 0x9000
     by (Status w) d k = unfold done says in word-most w (refusing-word w k)
-    by (Enter a) d k = unfold done says in omega arith
-    by (Choose g) d k = unfold done says in omega arith
-    by (Bytes g a n) d k = unfold done says in omega arith
-    by (Write g w) d k = unfold done says in omega arith
-    by (Activate g) d k = unfold done says in omega arith
-    by (Append r) d k = unfold done says in omega arith
-    by (Read r a z) d k = unfold done says in omega arith
-    by (Seek r q ne) d k = unfold done sought says in in-order (λ (u : Outcome). u .answer .status ≤ 0x9000) _ _ (omega arith, (omega arith, tt)) (λ p. omega arith)
+    by (SelectApplication a) d k = unfold done says in omega arith
+    by (SelectFile g) d k = unfold done says in omega arith
+    by (ReadBinary t a n) d k = unfold done says in omega arith
+    by (UpdateBinary n w) d k = unfold done says in omega arith
+    by (Activate n) d k = unfold done says in omega arith
+    by (AppendRecord r) d k = unfold done says in omega arith
+    by (ReadRecord r a z) d k = unfold done says in omega arith
+    by (SearchRecord r q ne) d k = unfold done searched says in ifElse-ind (λ (u : Outcome). u .answer .status ≤ 0x9000) (eqb (searchStatus (recordsOf img (r .kind)) d q ne) 0x9000) (λ e. omega arith) (λ e. word-most _ (search-word (recordsOf img (r .kind)) d q ne))
     by (Report g p2) d k = unfold done says in omega arith
 
-    go : (x : Refusal) → taken x img s cmd buf .answer .status ≤ 0x9000
-    go Taken = unfold taken in by (decide img s cmd) (dataOf cmd) (decide-word img s cmd)
-    go ShortBuffer = unfold taken in omega arith
-    go BadImage = unfold taken in omega arith
-    go BadRights = unfold taken in omega arith
-    go BadSession = unfold taken in omega arith
+    go : (x : Verdict) → stepBy x img s cmd buf .answer .status ≤ 0x9000
+    go Accepted = unfold stepBy in by (decide img s cmd) (dataOf cmd) (decide-word img s cmd)
+    go (Refused r) = unfold stepBy in omega arith

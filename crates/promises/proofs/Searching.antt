@@ -1,47 +1,49 @@
--- SEARCH RECORD names exactly the records of a file's history that match.
+-- SEARCH RECORD names exactly the records of a file's history that match. Read ../specs/Promises.antt, section 3, before. Exports
+-- `leaves-none-out`.
 use Prim.Native.Nat.{ℕ, _≤_}
-use mathlib.Core.Path.{_≡_, refl, sym, ap, subst, _∙_}
+use mathlib.Core.Path.{_≡_, refl, sym, ap, ap₂, subst, _∙_}
 use mathlib.Core.Bool.{Bool, true, false}
 use mathlib.Core.Logic.{⊎-elim}
 use mathlib.Core.List.{List, [], _∷_}
 use mathlib.Core.List.{List·Memᴰ, List·Memᴰ·head, List·Memᴰ·not-nil, List·Memᴰ·cases-cons}
 use native.Mathlib.Omega.{arith}
 use lib.ListN.{length, take, getD}
-use lib.Dec.{ltb, eqb}
-use borrow.Author.Tests.{ltb-true, ltb-false}
-use Rattle.base.specs.Choice.{pick}
-use Rattle.base.specs.Bytes.{part}
+use lib.Dec.{leb, ltb, eqb}
+use borrow.Author.Tests.{ltb-true, ltb-false, leb-true, le-leb}
+use Rattle.base.specs.Choice.{ifElse}
 use Rattle.base.proofs.Cases.{by-cases, false-true}
-use Rattle.records.specs.Body.{nth}
-use Rattle.store.specs.Image.{wellFormed, recordsOf}
-use Rattle.bodies.specs.declared.rules.Rule.{Rule}
-use Rattle.window.specs.Window.{occursIn, windowOf, matchesIn}
-use Rattle.window.proofs.Occurring.{occurs-sound, occurs-complete}
-use Rattle.writer.specs.Number.{big}
-use Rattle.templates.specs.Search.{Sought, Searches}
-use Rattle.templates.specs.declared.Search.{Search}
-use Rattle.files.specs.declared.File.the-variants.{Records}
-use Rattle.session.specs.Session.{placed}
-use Rattle.session.specs.declared.Session.{Session}
-use Rattle.session.specs.declared.Place.the-variants.{Record as OnRecord}
-use Rattle.session.specs.declared.Task.the-variants.{ReadRecords}
-use Rattle.session.proofs.Steps.{FileReached, ReachedOk, reach-ok}
-use Rattle.recordfiles.specs.SearchRecord.{searchNamed}
-use Rattle.commands.specs.Decide.{dataOf}
-use Rattle.decision.specs.declared.Decision.{Decision}
-use Rattle.found.specs.Found.{matching, hits, foundData}
-use Rattle.found.proofs.Matching.{Up, matching-sound, matching-complete, matching-ascends, first-match, none-hits, hits-none}
-use Rattle.effects.specs.Outcome.{Outcome, says}
-use Rattle.machine.specs.Effects.{hitsOf, foundOf, sought, done}
+use Rattle.store_records.specs.Body.{nth}
+use Rattle.store_image.specs.Image.{wellFormed, recordsOf}
+use Rattle.store_kinds.specs.declared.rules.Rule.{Rule}
+use Rattle.machine_window.specs.Window.{occursIn, windowOf, matchesIn}
+use Rattle.machine_window.proofs.Occurring.{occurs-sound, occurs-complete}
+use Rattle.objects_writer.specs.Number.{big}
+use Rattle.objects_templates.specs.Search.{SearchFields, Searches}
+use Rattle.objects_templates.specs.declared.Search.{Search}
+use Rattle.store_files.specs.Loops.{Stored}
+use Rattle.machine_session.specs.Session.{placed}
+use Rattle.machine_session.specs.declared.Session.{Session}
+use Rattle.machine_session.specs.declared.Place.the-variants.{OnRecord}
+use Rattle.machine_session.specs.declared.Access.the-variants.{Read}
+use Rattle.machine_session.proofs.Steps.{RecordResolved, RecordOk, resolveRecord-wellFormed}
+use Rattle.machine_record.specs.SearchRecord.{fileIn, searchNamed, searchHits, searchReply, searchStatus}
+use Rattle.machine_record.proofs.Searched.{searchStatus-none, searchStatus-over, searchStatus-found}
+use Rattle.machine_dispatch.specs.Decide.{dataOf}
+use Rattle.machine_action.specs.declared.Action.{Action}
+use Rattle.machine_reply_search.specs.Found.{matching, hits, foundData, reply}
+use Rattle.machine_reply_search.proofs.Listing.{reply-whole}
+use Rattle.machine_reply_search.proofs.Matching.{Up, matching-sound, matching-complete, matching-ascends, first-match, none-hits, hits-none}
+use Rattle.machine_answer.specs.Outcome.{Outcome, says}
+use Rattle.machine.specs.Effects.{searched, done}
 use Rattle.machine.specs.Step.{step}
-use Rattle.machine.proofs.Seeking.{found-short, sought-none, sought-over, sought-found}
+use Rattle.machine.proofs.Seeking.{reply-short, searched-refused, searched-found}
 use Rattle.promises.specs.Calls.{after, history}
 use Rattle.promises.specs.Matches.{Stands, Matches}
 use Rattle.promises.specs.Promises.{dataIn, Ascending, Names, Leaves-none-out}
-use Rattle.promises.proofs.Answering.{data-said, step-taken, taken-room}
+use Rattle.promises.proofs.Answering.{data-said, step-accepted, accepted-room}
 use Rattle.promises.proofs.Deciding.{search-decided-complete}
 use Rattle.promises.proofs.Growing.{calls-held}
-use Rattle.promises.proofs.Reading.{reached-records}
+use Rattle.promises.proofs.Reading.{stored-records}
 
 -- ---- the text stands in a window exactly where the test of a match says so
 
@@ -65,7 +67,7 @@ first-ascending : (b : ℕ) (l : List ℕ) → Up b l → Ascending b (take 1 l)
 first-ascending b [] u = tt
 first-ascending b (x ∷ l) u = (u .0, tt)
 
-module _ (rs : List (List ℕ)) (x : Sought) where
+module _ (rs : List (List ℕ)) (x : SearchFields) where
   abbrev offset : ℕ
   offset = big (x .offset)
 
@@ -95,10 +97,10 @@ module _ (rs : List (List ℕ)) (x : Sought) where
   found-all n h = matching-complete rs offset number (x .text) n (h .low) (h .high) (tested n h)
 
   abbrev all-listed : one ≡ false → numbers ≡ found
-  all-listed e = unfold hits in ap (λ (b : Bool). pick b (take 1 found) found) e
+  all-listed e = unfold hits in ap (λ (b : Bool). ifElse b (take 1 found) found) e
 
   abbrev first-listed : one ≡ true → numbers ≡ take 1 found
-  first-listed e = unfold hits in ap (λ (b : Bool). pick b (take 1 found) found) e
+  first-listed e = unfold hits in ap (λ (b : Bool). ifElse b (take 1 found) found) e
 
   ascends : Ascending 0 numbers
   ascends =
@@ -144,48 +146,52 @@ module _ (rs : List (List ℕ)) (x : Sought) where
 
 -- ---- the answer
 
-module _ (img : List ℕ) (s : Session) (d buf : List ℕ) (r : Rule) (q : Search) (ne : ℕ) (x : Sought) (w : Searches d q x) (o : wellFormed img ≡ true) (room : 2050 ≤ length buf) (h : FileReached img s ReadRecords (Records r)) where
+module _ (img : List ℕ) (s : Session) (d buf : List ℕ) (r : Rule) (q : Search) (ne : ℕ) (x : SearchFields) (w : Searches d q x) (o : wellFormed img ≡ true) (room : 2050 ≤ length buf) (h : Stored img r) where
   abbrev here : List (List ℕ)
   here = recordsOf img (r .kind)
 
   abbrev out : Outcome
-  out = sought img s d buf r q ne
+  out = searched img s d buf r q ne
+
+  file-short : length (fileIn d q) ≤ 2
+  file-short = let l = ap length (w .file-placed .is) in omega (arith, w .sized .file-size .1)
 
   -- what is listed and replied, in the words of the fields
-  hits-are : hitsOf img d r q ≡ numbers here x
-  unfolding hitsOf
+  hits-are : searchHits here d q ≡ numbers here x
+  unfolding searchHits
   hits-are = cc
 
-  reply-is : foundOf img d r q ≡ foundData (x .file) (numbers here x)
-  unfolding foundOf
-  reply-is = cc (hits-are)
+  reply-is : searchReply here d q ≡ foundData (x .file) (numbers here x)
+  unfolding searchReply
+  reply-is = reply-whole (fileIn d q) (searchHits here d q) (omega (arith, file-short)) ∙ ap₂ foundData (w .file-placed .is) hits-are
 
-  file-short : length (part d (q .file .at) (q .file .len)) ≤ 2
-  file-short = let l = ap length (w .file-placed .is) in omega (arith, w .sized .file-size .1)
+  -- which of the three answers
+  fits : (b : Bool) → leb (length (foundData (x .file) (numbers here x))) ne ≡ b → leb (length (searchReply here d q)) ne ≡ b
+  fits b e = ap (λ (l : List ℕ). leb (length l) ne) reply-is ∙ e
 
   replied : 1 ≤ length (numbers here x) → length (foundData (x .file) (numbers here x)) ≤ ne → (out .answer .status ≡ 0x9000) × (dataIn out ≡ foundData (x .file) (numbers here x))
   unfolding says
   replied l f =
-      let e = sought-found img s d buf r q ne (rw hits-are l) (rw reply-is f) in (
+      let e = searched-found img s d buf r q ne (searchStatus-found here d q ne (rw hits-are l) (fits true (le-leb _ _ f))) in (
         ap (λ (y : Outcome). y .answer .status) e,
         ap dataIn e
-            ∙ data-said 0x9000 (foundOf img d r q) (placed s (OnRecord (r .id) (getD (hitsOf img d r q) 0 0))) img buf (found-short img s d r q o h file-short) room
+            ∙ data-said 0x9000 (searchReply here d q) (placed s (OnRecord (r .id) (getD (searchHits here d q) 0 0))) img buf (reply-short img d r q o h file-short) room
             ∙ reply-is,
       )
 
   nothing : length (numbers here x) ≡ 0 → (out .answer .status ≡ 0x6282) × (out .answer .length ≡ 2)
   unfolding says
   nothing z =
-      let e = sought-none img s d buf r q ne (ap length hits-are ∙ z) in
+      let e = searched-refused img s d buf r q ne (searchStatus-none here d q ne (ap length hits-are ∙ z)) (λ y. omega (arith, y)) in
       (ap (λ (y : Outcome). y .answer .status) e, ap (λ (y : Outcome). y .answer .length) e)
 
   -- where some are listed the status is another
   something : 1 ≤ length (numbers here x) → out .answer .status ≡ 0x6282 → ⊥
   unfolding says
   something l t =
-      by-cases (ltb ne (length (foundData (x .file) (numbers here x))))
-      (λ b. let e = ap (λ (y : Outcome). y .answer .status) (sought-over img s d buf r q ne (rw hits-are l) (rw reply-is (ltb-true _ _ b))) in omega (arith, e, t))
-      (λ b. let e = replied l (ltb-false _ _ b) .0 in omega (arith, e, t))
+      by-cases (leb (length (foundData (x .file) (numbers here x))) ne)
+      (λ b. let e = replied l (leb-true _ _ b) .0 in omega (arith, e, t))
+      (λ b. let e = ap (λ (y : Outcome). y .answer .status) (searched-refused img s d buf r q ne (searchStatus-over here d q ne (rw hits-are l) (fits false b)) (λ y. omega (arith, y))) in omega (arith, e, t))
 
   names-here : Names here x ne out
   names-here =
@@ -206,10 +212,10 @@ leaves-none-out img calls s cmd buf f x r o z =
     let h = calls-held img calls o in
     let c = search-decided-complete now s cmd buf f x r z in
     let q = c .0 in
-    let g : FileReached now s ReadRecords (Records r) = subst (ReachedOk now s ReadRecords) (z .file) (reach-ok now s ReadRecords (searchNamed (x .file))) in
-    let u : step now s cmd buf ≡ sought now s (dataOf cmd) buf r q (f .ne) =
-    step-taken now s cmd buf (z .accepted) ∙ ap (λ (y : Decision). done y now s (dataOf cmd) buf) (c .1) ∙ (unfold done in refl) in
-    let e : recordsOf now (r .kind) ≡ history (r .kind) img calls = h .records (r .kind) (reached-records now s ReadRecords r g) in
+    let g : RecordResolved now s Read r = subst (RecordOk now s Read) (z .file) (resolveRecord-wellFormed now s Read (searchNamed (x .file))) in
+    let u : step now s cmd buf ≡ searched now s (dataOf cmd) buf r q (f .ne) =
+    step-accepted now s cmd buf (z .accepted) ∙ ap (λ (y : Action). done y now s (dataOf cmd) buf) (c .1) ∙ (unfold done in refl) in
+    let e : recordsOf now (r .kind) ≡ history (r .kind) img calls = h .records (r .kind) (stored-records now r (g .file .ok)) in
     subst (Names (history (r .kind) img calls) x (f .ne)) (sym u)
-    (subst (λ (rs : List (List ℕ)). Names rs x (f .ne) (sought now s (dataOf cmd) buf r q (f .ne))) e
-    (names-here now s (dataOf cmd) buf r q (f .ne) x (c .2) (h .well) (taken-room now s buf (z .accepted)) g))
+    (subst (λ (rs : List (List ℕ)). Names rs x (f .ne) (searched now s (dataOf cmd) buf r q (f .ne))) e
+    (names-here now s (dataOf cmd) buf r q (f .ne) x (c .2) (h .well) (accepted-room now s buf (z .accepted)) (g .file .ok)))

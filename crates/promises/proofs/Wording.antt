@@ -1,5 +1,5 @@
--- Every status word that is decided is one of document 01's, and neither 9000 nor 6282 (`decide-word`). Read before: ../specs/Words.antt.
-use Prim.Native.Nat.{ℕ, _/_, _≤_}
+-- Every status word that a command comes to is one of the words, and neither 9000 nor 6282 (`decide-word`). Read before: ../specs/Words.antt.
+use Prim.Native.Nat.{ℕ, _/_, _%_, _≤_}
 use mathlib.Core.Path.{_≡_, refl, sym, ap, _∙_}
 use mathlib.Core.Bool.{Bool, true, false, _||_, _&&_}
 use mathlib.Core.Logic.{⊎-elim}
@@ -9,46 +9,64 @@ use lib.ListN.{length}
 use lib.Dec.{leb, eqb}
 use borrow.Author.Tests.{eqb-true, leb-true}
 use Rattle.base.specs.Bytes.{part}
-use Rattle.base.proofs.Cases.{by-cases, pick-ind, false-true, and-left, and-right}
-use Rattle.templates.specs.Search.{readSearch}
-use Rattle.templates.specs.Update.{readUpdate}
-use Rattle.templates.specs.Reference.{readReference}
-use Rattle.templates.specs.declared.Query.{Query}
-use Rattle.templates.specs.declared.Query.the-variants.{Ask, Refused}
-use Rattle.templates.specs.declared.Update.{Update}
-use Rattle.templates.specs.declared.Update.the-variants.{Write as Writing, Refused as NoWrite}
-use Rattle.templates.specs.declared.Reference.{Reference}
-use Rattle.templates.specs.declared.Reference.the-variants.{Named as NamedBy, Refused as NoName}
-use Rattle.files.specs.Files.{byId, byShort}
-use Rattle.files.specs.declared.File.{File}
-use Rattle.files.specs.declared.File.the-variants.{Missing, Info, Dir, Records, Biometrics}
-use Rattle.session.specs.Reach.{reachFile, reachPlace, reach}
-use Rattle.session.specs.declared.Place.{Place}
-use Rattle.session.specs.declared.Place.the-variants.{Nothing, File as OnFile, Record as OnRecord}
-use Rattle.session.specs.declared.Session.{Session}
-use Rattle.session.specs.declared.Named.{Named}
-use Rattle.session.specs.declared.Named.the-variants.{Current, Short, Id}
-use Rattle.session.specs.declared.Task.{Task}
-use Rattle.session.specs.declared.Task.the-variants.{Look, ReadBytes, WriteBytes, ReadRecords, AppendRecord}
-use Rattle.session.specs.declared.Reached.{Reached}
-use Rattle.session.specs.declared.Reached.the-variants.{Stop, At}
-use Rattle.session.proofs.Steps.{in-order}
-use Rattle.apdu.specs.Shape.{shapeOf}
-use Rattle.apdu.specs.declared.Apdu.{Apdu}
-use Rattle.apdu.specs.declared.Apdu.the-variants.{Bad, Good}
-use Rattle.apdu.specs.declared.Frame.{Frame}
-use Rattle.decision.specs.Tests.{p1p2, idIn, orCurrent, onward}
-use Rattle.decision.specs.declared.Decision.{Decision}
-use Rattle.decision.specs.declared.Decision.the-variants.{Status, Enter, Choose, Bytes, Write, Activate, Append, Read, Seek, Report}
-use Rattle.selecting.specs.Select.{selectAid, selectMaster, selectFile, chosenBy, select}
-use Rattle.selecting.specs.Fmm.{reportOf, fmmNamed, fmmFile, fmmData, fmm}
-use Rattle.transparent.specs.ReadBinary.{readNamed, readOffset, readAt, readBinary}
-use Rattle.transparent.specs.UpdateBinary.{updateNamed, updateAt, updateData, updateBinary}
-use Rattle.transparent.specs.Activate.{activate}
-use Rattle.recordfiles.specs.AppendRecord.{appendTo, appendAt, appendRecord}
-use Rattle.recordfiles.specs.ReadRecord.{readFrom, readRecordsAt, readRecord}
-use Rattle.recordfiles.specs.SearchRecord.{searchNamed, searchAt, searchData, searchRecord}
-use Rattle.commands.specs.Decide.{byIns, byOwnIns, byClass, byShape, decide}
+use Rattle.base.proofs.Cases.{by-cases, ifElse-ind, false-true, and-left, and-right}
+use Rattle.objects_templates.specs.Search.{readSearch}
+use Rattle.objects_templates.specs.Update.{readUpdate}
+use Rattle.objects_templates.specs.Reference.{readReference}
+use Rattle.objects_templates.specs.declared.Query.{Query}
+use Rattle.objects_templates.specs.declared.Query.the-variants.{Ask, NoQuery}
+use Rattle.objects_templates.specs.declared.Update.{Update}
+use Rattle.objects_templates.specs.declared.Update.the-variants.{Writing, NoUpdate}
+use Rattle.objects_templates.specs.declared.Reference.{Reference}
+use Rattle.objects_templates.specs.declared.Reference.the-variants.{Refers, NoReference}
+use Rattle.store_files.specs.Files.{byId, byShort}
+use Rattle.store_files.specs.Master.{aidOf}
+use Rattle.store_files.specs.declared.AidName.{AidName}
+use Rattle.store_files.specs.declared.AidName.the-variants.{Application, OtherAid}
+use Rattle.store_files.specs.declared.Transparent.{Transparent}
+use Rattle.store_files.specs.declared.Transparent.the-variants.{Info, Dir, Biometrics}
+use Rattle.store_files.specs.declared.File.{File}
+use Rattle.store_files.specs.declared.File.the-variants.{RecordFile, TransparentFile}
+use Rattle.store_files.specs.declared.Lookup.{Lookup}
+use Rattle.store_files.specs.declared.Lookup.the-variants.{Known, NoFile}
+use Rattle.store_kinds.specs.declared.rules.Rule.{Rule}
+use Rattle.machine_action.specs.Tests.{p1p2, idIn, orCurrent, onRecord, onTransparent, onBiometrics, onFile}
+use Rattle.machine_select.specs.Select.{selectAid, selectMaster, selectFile, selectBy, select}
+use Rattle.machine_select.specs.Fmm.{fmmOn, fmmNamed, fmmFile, fmmBy, fmm}
+use Rattle.machine_binary.specs.ReadBinary.{readNamed, readOffset, readBinaryOn, readBinary}
+use Rattle.machine_binary.specs.UpdateBinary.{updateNamed, updateOn, updateBy, updateBinary}
+use Rattle.machine_record.specs.AppendRecord.{appendOn, appendRecord}
+use Rattle.machine_record.specs.ReadRecord.{recordNamed, readFrom, readRecordOn, readRecord}
+use Rattle.machine_record.specs.SearchRecord.{fileIn, searchNamed, searchOn, searchBy, searchRecord}
+use Rattle.machine_session.specs.Resolve.{meantBy, meantAt, fileMeant, mayRecord, mayRead, mayInspect, recordBy, resolveRecord, transparentBy, resolveTransparent, writable, biometricsBy, resolveBiometrics, fileBy, resolveFile}
+use Rattle.machine_session.specs.declared.Access.{Access}
+use Rattle.machine_session.specs.declared.Access.the-variants.{Read, Append}
+use Rattle.machine_session.specs.declared.ResolvedRecord.{ResolvedRecord}
+use Rattle.machine_session.specs.declared.ResolvedRecord.the-variants.{RecordStop, RecordAt}
+use Rattle.machine_session.specs.declared.ResolvedTransparent.{ResolvedTransparent}
+use Rattle.machine_session.specs.declared.ResolvedTransparent.the-variants.{TransparentStop, TransparentAt}
+use Rattle.machine_session.specs.declared.ResolvedBiometrics.{ResolvedBiometrics}
+use Rattle.machine_session.specs.declared.ResolvedBiometrics.the-variants.{BiometricsStop, BiometricsAt}
+use Rattle.machine_session.specs.declared.ResolvedFile.{ResolvedFile}
+use Rattle.machine_session.specs.declared.ResolvedFile.the-variants.{FileStop, FileAt}
+use Rattle.machine_session.specs.declared.Meant.{Meant}
+use Rattle.machine_session.specs.declared.Meant.the-variants.{NotMeant, TheFile}
+use Rattle.machine_session.specs.declared.RecordNumber.{RecordNumber}
+use Rattle.machine_session.specs.declared.RecordNumber.the-variants.{Number, NoNumber}
+use Rattle.machine_session.specs.declared.Place.{Place}
+use Rattle.machine_session.specs.declared.Place.the-variants.{Nowhere, OnFile, OnRecord}
+use Rattle.machine_session.specs.declared.Session.{Session}
+use Rattle.machine_session.specs.declared.Named.{Named}
+use Rattle.machine_session.specs.declared.Named.the-variants.{Current, Short, Id}
+use Rattle.machine_session.proofs.Steps.{inOrder-each}
+use Rattle.machine_apdu.specs.Shape.{shapeOf}
+use Rattle.machine_apdu.specs.declared.Apdu.{Apdu}
+use Rattle.machine_apdu.specs.declared.Apdu.the-variants.{Bad, Good}
+use Rattle.machine_apdu.specs.declared.Frame.{Frame}
+use Rattle.machine_action.specs.declared.Action.{Action}
+use Rattle.machine_action.specs.declared.Action.the-variants.{Status, SelectApplication, SelectFile, ReadBinary, UpdateBinary, Activate, AppendRecord, ReadRecord, SearchRecord, Report}
+use Rattle.machine_binary.specs.Activate.{activateFile}
+use Rattle.machine_dispatch.specs.Decide.{byIns, byOwnIns, byClass, byShape, decide}
 use Rattle.promises.specs.Words.{words}
 
 -- ---- one of a list
@@ -98,146 +116,210 @@ refusing-not w v y n e = false-true (sym n ∙ ap isRefusing (sym e) ∙ y)
 
 -- ---- steps 7 to 9
 
-abbrev Stops : Reached → Type 0
-Stops (Stop w) = isRefusing w ≡ true
-Stops (At f) = Unit {0}
+abbrev Means : Meant → Type 0
+Means (NotMeant w) = isRefusing w ≡ true
+Means (TheFile f) = Unit {0}
 
-module _ (img : List ℕ) (s : Session) (t : Task) where
-  file-word : (f : File) → Stops (reachFile img s t f)
-  unfolding reachFile
-  file-word f = in-order Stops _ (At f) (refl, (refl, (refl, tt))) (λ p. tt)
+abbrev RecordStops : ResolvedRecord → Type 0
+RecordStops (RecordStop w) = isRefusing w ≡ true
+RecordStops (RecordAt r) = Unit {0}
 
-  place-word : (p : Place) → Stops (reachPlace img s t p)
-  place-word Nothing = refl
-  place-word (OnFile i) = file-word (byId img (s .application) i)
-  place-word (OnRecord i n) = file-word (byId img (s .application) i)
+abbrev TransparentStops : ResolvedTransparent → Type 0
+TransparentStops (TransparentStop w) = isRefusing w ≡ true
+TransparentStops (TransparentAt t) = Unit {0}
 
-  reach-word : (n : Named) → Stops (reach img s t n)
-  unfolding reach
-  reach-word Current = place-word (s .place)
-  reach-word (Short x) = file-word (byShort img (s .application) x)
-  reach-word (Id i) = file-word (byId img (s .application) i)
+abbrev BiometricsStops : ResolvedBiometrics → Type 0
+BiometricsStops (BiometricsStop w) = isRefusing w ≡ true
+BiometricsStops (BiometricsAt n) = Unit {0}
+
+abbrev FileStops : ResolvedFile → Type 0
+FileStops (FileStop w) = isRefusing w ≡ true
+FileStops (FileAt f) = Unit {0}
+
+module _ (img : List ℕ) (s : Session) where
+  lookup-word : (l : Lookup) → Means (meantBy l)
+  lookup-word (Known f) = tt
+  lookup-word NoFile = refl
+
+  meant-word : (n : Named) → Means (fileMeant img s n)
+  unfolding fileMeant
+  meant-word Current = place (s .place)
+    where
+      place : (p : Place) → Means (meantAt img (s .application) p)
+      place Nowhere = refl
+      place (OnFile i) = lookup-word (byId img (s .application) i)
+      place (OnRecord i n) = lookup-word (byId img (s .application) i)
+  meant-word (Short x) = lookup-word (byShort img (s .application) x)
+  meant-word (Id i) = lookup-word (byId img (s .application) i)
+
+  record-word : (x : Access) (n : Named) → RecordStops (resolveRecord img s x n)
+  unfolding resolveRecord
+  record-word x n = go (fileMeant img s n) (meant-word n)
+    where
+      go : (m : Meant) → Means m → RecordStops (recordBy s x m)
+      go (NotMeant w) h = h
+      go (TheFile (TransparentFile t)) h = refl
+      go (TheFile (RecordFile r)) h = ifElse-ind RecordStops (mayRecord s x r) (λ e. tt) (λ e. refl)
+
+  transparent-word : (n : Named) → TransparentStops (resolveTransparent img s n)
+  unfolding resolveTransparent
+  transparent-word n = go (fileMeant img s n) (meant-word n)
+    where
+      go : (m : Meant) → Means m → TransparentStops (transparentBy img s m)
+      go (NotMeant w) h = h
+      go (TheFile (RecordFile r)) h = refl
+      go (TheFile (TransparentFile t)) h = ifElse-ind TransparentStops (mayRead img s t) (λ e. tt) (λ e. refl)
+
+  biometrics-word : (n : Named) → BiometricsStops (resolveBiometrics img s n)
+  unfolding resolveBiometrics
+  biometrics-word n = go (fileMeant img s n) (meant-word n)
+    where
+      of : (t : Transparent) → BiometricsStops (writable img s t)
+      of Info = unfold writable in refl
+      of Dir = unfold writable in refl
+      of (Biometrics k) = unfold writable in inOrder-each BiometricsStops _ _ (refl, (refl, tt)) (λ p. tt)
+
+      go : (m : Meant) → Means m → BiometricsStops (biometricsBy img s m)
+      go (NotMeant w) h = h
+      go (TheFile (RecordFile r)) h = refl
+      go (TheFile (TransparentFile t)) h = of t
+
+  file-word : (n : Named) → FileStops (resolveFile img s n)
+  unfolding resolveFile
+  file-word n = go (fileMeant img s n) (meant-word n)
+    where
+      go : (m : Meant) → Means m → FileStops (fileBy img s m)
+      go (NotMeant w) h = h
+      go (TheFile f) h = ifElse-ind FileStops (mayInspect img s f) (λ e. tt) (λ e. refl)
 
 -- ---- the commands
 
-abbrev pub Worded : Decision → Type 0
+abbrev pub Worded : Action → Type 0
 Worded (Status w) = isRefusing w ≡ true
-Worded (Enter a) = Unit {0}
-Worded (Choose g) = Unit {0}
-Worded (Bytes g o n) = Unit {0}
-Worded (Write g w) = Unit {0}
-Worded (Activate g) = Unit {0}
-Worded (Append r) = Unit {0}
-Worded (Read r a b) = Unit {0}
-Worded (Seek r q ne) = Unit {0}
+Worded (SelectApplication a) = Unit {0}
+Worded (SelectFile g) = Unit {0}
+Worded (ReadBinary t o n) = Unit {0}
+Worded (UpdateBinary n w) = Unit {0}
+Worded (Activate n) = Unit {0}
+Worded (AppendRecord r) = Unit {0}
+Worded (ReadRecord r a b) = Unit {0}
+Worded (SearchRecord r q ne) = Unit {0}
 Worded (Report g p2) = Unit {0}
 
 module _ (img : List ℕ) (s : Session) (f : Frame) (d : List ℕ) where
-  at-file : (t : Task) (n : Named) (go : File → Decision) → ((g : File) → Worded (go g)) → Worded (onward (reach img s t n) go)
-  at-file t n go h = by (reach img s t n) (reach-word img s t n)
+  on-record : (x : Access) (n : Named) (go : Rule → Action) → ((r : Rule) → Worded (go r)) → Worded (onRecord (resolveRecord img s x n) go)
+  on-record x n go h = by (resolveRecord img s x n) (record-word img s x n)
     where
-      by : (r : Reached) → Stops r → Worded (onward r go)
-      by (Stop w) o = o
-      by (At g) o = h g
+      by : (a : ResolvedRecord) → RecordStops a → Worded (onRecord a go)
+      by (RecordStop w) o = o
+      by (RecordAt r) o = h r
+
+  on-transparent : (n : Named) (go : Transparent → Action) → ((t : Transparent) → Worded (go t)) → Worded (onTransparent (resolveTransparent img s n) go)
+  on-transparent n go h = by (resolveTransparent img s n) (transparent-word img s n)
+    where
+      by : (a : ResolvedTransparent) → TransparentStops a → Worded (onTransparent a go)
+      by (TransparentStop w) o = o
+      by (TransparentAt t) o = h t
+
+  on-biometrics : (n : Named) (go : ℕ → Action) → ((k : ℕ) → Worded (go k)) → Worded (onBiometrics (resolveBiometrics img s n) go)
+  on-biometrics n go h = by (resolveBiometrics img s n) (biometrics-word img s n)
+    where
+      by : (a : ResolvedBiometrics) → BiometricsStops a → Worded (onBiometrics a go)
+      by (BiometricsStop w) o = o
+      by (BiometricsAt k) o = h k
+
+  on-file : (n : Named) (go : File → Action) → ((g : File) → Worded (go g)) → Worded (onFile (resolveFile img s n) go)
+  on-file n go h = by (resolveFile img s n) (file-word img s n)
+    where
+      by : (a : ResolvedFile) → FileStops a → Worded (onFile a go)
+      by (FileStop w) o = o
+      by (FileAt g) o = h g
 
   select-word : Worded (select img s f d)
-  unfolding select chosenBy selectAid selectMaster selectFile
+  unfolding select selectBy selectMaster selectFile
   select-word =
-      in-order Worded _ _ (refl, (refl, (refl, (refl, tt))))
-      (λ p. pick-ind Worded (eqb (f .header .p1) 0x04)
-      (λ e. in-order Worded _ _ (refl, (refl, tt)) (λ p. tt))
-      (λ e. pick-ind Worded (eqb (f .header .p1) 0x02)
-      (λ e. at-file Look (Id (idIn d)) Choose (λ g. tt))
-      (λ e. pick-ind Worded (eqb (idIn d) 0x3F00) (λ e. tt) (λ e. refl))))
+      inOrder-each Worded _ _ (refl, (refl, (refl, (refl, tt))))
+      (λ p. ifElse-ind Worded (eqb (f .header .p1) 0x04)
+      (λ e. aid (aidOf d))
+      (λ e. ifElse-ind Worded (eqb (f .header .p1) 0x02)
+      (λ e. on-file (Id (idIn d)) SelectFile (λ g. tt))
+      (λ e. ifElse-ind Worded (eqb (idIn d) 0x3F00) (λ e. tt) (λ e. refl))))
+    where
+      aid : (a : AidName) → Worded (selectAid img s a)
+      aid OtherAid = refl
+      aid (Application a) = inOrder-each Worded _ _ (refl, (refl, tt)) (λ p. tt)
 
   read-binary-word : Worded (readBinary img s f)
-  unfolding readBinary readAt
+  unfolding readBinary readBinaryOn
   read-binary-word =
-      in-order Worded _ _ (refl, (refl, tt))
-      (λ p. at-file ReadBytes (readNamed f) (readAt img (readOffset f) (f .ne)) (λ g. in-order Worded _ _ (refl, tt) (λ p. tt)))
+      inOrder-each Worded _ _ (refl, (refl, tt))
+      (λ p. on-transparent (readNamed f) (readBinaryOn img (readOffset f) (f .ne)) (λ t. inOrder-each Worded _ _ (refl, tt) (λ p. tt)))
 
   update-word : Worded (updateBinary img s f d)
-  unfolding updateBinary updateAt
-  update-word = in-order Worded _ _ (refl, tt) (λ p. by (readUpdate d))
+  unfolding updateBinary
+  update-word = inOrder-each Worded _ _ (refl, tt) (λ p. by (readUpdate d))
     where
-      by : (u : Update) → Worded (updateData img s (p1p2 f) u)
-      by NoWrite = refl
+      by : (u : Update) → Worded (updateBy img s (p1p2 f) u)
+      by NoUpdate = refl
       by (Writing w) =
-          unfold updateAt in
-          at-file WriteBytes (updateNamed (p1p2 f)) (updateAt img w) (λ g. in-order Worded _ _ (refl, (refl, tt)) (λ p. tt))
+          unfold updateOn in
+          on-biometrics (updateNamed (p1p2 f)) (updateOn img w) (λ n. inOrder-each Worded _ _ (refl, (refl, tt)) (λ p. tt))
 
-  activate-word : Worded (activate img s f)
-  unfolding activate
-  activate-word = in-order Worded _ _ (refl, (refl, tt)) (λ p. at-file WriteBytes Current Activate (λ g. tt))
+  activate-word : Worded (activateFile img s f)
+  unfolding activateFile
+  activate-word = inOrder-each Worded _ _ (refl, (refl, tt)) (λ p. on-biometrics Current Activate (λ n. tt))
 
   append-word : Worded (appendRecord img s f d)
-  unfolding appendRecord
+  unfolding appendRecord appendOn
   append-word =
-      in-order Worded _ _ (refl, (refl, tt))
-      (λ p. at-file AppendRecord (orCurrent (f .header .p2 / 8)) (appendAt img (length d)) by)
-    where
-      by : (g : File) → Worded (appendAt img (length d) g)
-      by Missing = refl
-      by Info = refl
-      by Dir = refl
-      by (Biometrics n) = refl
-      by (Records r) = unfold appendTo in in-order Worded _ _ (refl, (refl, (refl, tt))) (λ p. tt)
+      inOrder-each Worded _ _ (refl, (refl, tt))
+      (λ p. on-record Append (orCurrent (f .header .p2 / 8)) (appendOn img (length d)) (λ r. inOrder-each Worded _ _ (refl, (refl, (refl, tt))) (λ p. tt)))
 
   read-record-word : Worded (readRecord img s f)
-  unfolding readRecord
+  unfolding readRecord readRecordOn
   read-record-word =
-      in-order Worded _ _ (refl, (refl, tt))
-      (λ p. at-file ReadRecords (orCurrent (f .header .p2 / 8)) (readRecordsAt img s f) by)
+      inOrder-each Worded _ _ (refl, (refl, tt))
+      (λ p. on-record Read (orCurrent (f .header .p2 / 8)) (readRecordOn img s f) (λ r. by r (recordNamed s r (f .header .p1))))
     where
-      by : (g : File) → Worded (readRecordsAt img s f g)
-      by Missing = refl
-      by Info = refl
-      by Dir = refl
-      by (Biometrics n) = refl
-      by (Records r) = unfold readFrom in in-order Worded _ _ (refl, (refl, tt)) (λ p. tt)
+      by : (r : Rule) (n : RecordNumber) → Worded (readFrom img (eqb (f .header .p2 % 8) 4) r n)
+      by r NoNumber = refl
+      by r (Number n) = inOrder-each Worded _ _ (refl, tt) (λ p. tt)
 
   search-word : Worded (searchRecord img s f d)
   unfolding searchRecord
-  search-word = in-order Worded _ _ (refl, (refl, tt)) (λ p. by (readSearch d))
+  search-word = inOrder-each Worded _ _ (refl, (refl, tt)) (λ p. by (readSearch d))
     where
-      by : (q : Query) → Worded (searchData img s (f .ne) d q)
-      by Refused = refl
-      by (Ask q) = at-file ReadRecords (searchNamed (part d (q .file .at) (q .file .len))) (searchAt q (f .ne)) on
-        where
-          on : (g : File) → Worded (searchAt q (f .ne) g)
-          on Missing = refl
-          on Info = refl
-          on Dir = refl
-          on (Biometrics n) = refl
-          on (Records r) = tt
+      by : (q : Query) → Worded (searchBy img s (f .ne) d q)
+      by NoQuery = refl
+      by (Ask q) = on-record Read (searchNamed (fileIn d q)) (searchOn q (f .ne)) (λ r. tt)
 
   fmm-word : Worded (fmm img s f d)
   unfolding fmm
   fmm-word =
-      in-order Worded _ _ (refl, (refl, (refl, (refl, tt))))
-      (λ p. pick-ind Worded (eqb (f .header .p1) 0) (λ e. named Current) (λ e. by (readReference d)))
+      inOrder-each Worded _ _ (refl, (refl, (refl, (refl, tt))))
+      (λ p. ifElse-ind Worded (eqb (f .header .p1) 0) (λ e. named Current) (λ e. by (readReference d)))
     where
       named : (n : Named) → Worded (fmmNamed img s (f .header .p2) n)
-      named n = unfold fmmNamed reportOf in at-file Look n (reportOf (f .header .p2)) (λ g. in-order Worded _ _ (refl, tt) (λ p. tt))
+      named n = unfold fmmNamed fmmOn in on-file n (fmmOn (f .header .p2)) (λ g. inOrder-each Worded _ _ (refl, tt) (λ p. tt))
 
-      by : (r : Reference) → Worded (fmmData img s (f .header .p2) d r)
-      by NoName = refl
-      by (NamedBy q) =
-          unfold fmmFile in pick-ind Worded (eqb (length (part d (q .at) (q .len))) 1) (λ e. in-order Worded _ _ (refl, tt) (λ p. named _)) (λ e. named _)
+      by : (r : Reference) → Worded (fmmBy img s (f .header .p2) d r)
+      by NoReference = refl
+      by (Refers q) =
+          unfold fmmFile in ifElse-ind Worded (eqb (length (part d (q .at) (q .len))) 1) (λ e. inOrder-each Worded _ _ (refl, tt) (λ p. named _)) (λ e. named _)
 
   -- steps 2 and 3
   class-word : Worded (byClass img s f d)
   unfolding byClass byIns byOwnIns
   class-word =
-      pick-ind Worded (eqb (f .header .cla) 0x00)
-      (λ c. pick-ind Worded (eqb (f .header .ins) 0xA4) (λ e. select-word)
-      (λ n. pick-ind Worded (eqb (f .header .ins) 0xB0) (λ e. read-binary-word)
-      (λ n. pick-ind Worded (eqb (f .header .ins) 0xD7) (λ e. update-word)
-      (λ n. pick-ind Worded (eqb (f .header .ins) 0x44) (λ e. activate-word)
-      (λ n. pick-ind Worded (eqb (f .header .ins) 0xE2) (λ e. append-word)
-      (λ n. pick-ind Worded (eqb (f .header .ins) 0xB2) (λ e. read-record-word)
-      (λ n. pick-ind Worded (eqb (f .header .ins) 0xA2) (λ e. search-word) (λ n. refl))))))))
-      (λ n. pick-ind Worded (eqb (f .header .cla) 0x80) (λ c. pick-ind Worded (eqb (f .header .ins) 0x5E) (λ e. fmm-word) (λ n. refl)) (λ n. refl))
+      ifElse-ind Worded (eqb (f .header .cla) 0x00)
+      (λ c. ifElse-ind Worded (eqb (f .header .ins) 0xA4) (λ e. select-word)
+      (λ n. ifElse-ind Worded (eqb (f .header .ins) 0xB0) (λ e. read-binary-word)
+      (λ n. ifElse-ind Worded (eqb (f .header .ins) 0xD7) (λ e. update-word)
+      (λ n. ifElse-ind Worded (eqb (f .header .ins) 0x44) (λ e. activate-word)
+      (λ n. ifElse-ind Worded (eqb (f .header .ins) 0xE2) (λ e. append-word)
+      (λ n. ifElse-ind Worded (eqb (f .header .ins) 0xB2) (λ e. read-record-word)
+      (λ n. ifElse-ind Worded (eqb (f .header .ins) 0xA2) (λ e. search-word) (λ n. refl))))))))
+      (λ n. ifElse-ind Worded (eqb (f .header .cla) 0x80) (λ c. ifElse-ind Worded (eqb (f .header .ins) 0x5E) (λ e. fmm-word) (λ n. refl)) (λ n. refl))
 
 -- step 1
 pub decide-word : (img : List ℕ) (s : Session) (cmd : List ℕ) → Worded (decide img s cmd)

@@ -1,84 +1,80 @@
 -- Calls as data, and what they leave of an image.
 use Prim.Native.Nat.{ℕ, _/_}
-use mathlib.Core.Bool.{Bool}
+use mathlib.Core.Bool.{Bool, false}
 use mathlib.Core.List.{List, [], _∷_, _++_}
 use lib.ListN.{length, take}
 use lib.Dec.{eqb}
-use Rattle.base.specs.Choice.{pick, every}
+use Rattle.base.specs.Choice.{ifElse, allOf}
 use Rattle.base.specs.Bytes.{part}
-use Rattle.store.specs.Image.{recordsOf}
-use Rattle.files.specs.declared.File.the-variants.{Missing, Info, Dir, Records, Biometrics}
-use Rattle.session.specs.Reach.{reach}
-use Rattle.session.specs.declared.Session.{Session}
-use Rattle.session.specs.declared.Task.the-variants.{AppendRecord}
-use Rattle.session.specs.declared.Reached.{Reached}
-use Rattle.session.specs.declared.Reached.the-variants.{Stop, At}
-use Rattle.apdu.specs.Shape.{shapeOf}
-use Rattle.apdu.specs.declared.Apdu.{Apdu}
-use Rattle.apdu.specs.declared.Apdu.the-variants.{Bad, Good}
-use Rattle.apdu.specs.declared.Frame.{Frame}
-use Rattle.decision.specs.Tests.{orCurrent}
+use Rattle.store_image.specs.Image.{recordsOf}
+use Rattle.machine_session.specs.Resolve.{resolveRecord}
+use Rattle.machine_session.specs.declared.Session.{Session}
+use Rattle.machine_session.specs.declared.Access.the-variants.{Append}
+use Rattle.machine_session.specs.declared.ResolvedRecord.{ResolvedRecord}
+use Rattle.machine_session.specs.declared.ResolvedRecord.the-variants.{RecordStop, RecordAt}
+use Rattle.machine_apdu.specs.Shape.{shapeOf}
+use Rattle.machine_apdu.specs.declared.Apdu.{Apdu}
+use Rattle.machine_apdu.specs.declared.Apdu.the-variants.{Bad, Good}
+use Rattle.machine_apdu.specs.declared.Frame.{Frame}
+use Rattle.machine_action.specs.Tests.{orCurrent}
 use Rattle.machine.specs.Step.{step}
-use Rattle.moving.specs.Moving.{carry, carryInto}
-use Rattle.moving.specs.declared.Moved.{Moved}
-use Rattle.moving.specs.declared.Moved.the-variants.{Image, Refused}
+use Rattle.store_move.specs.Moving.{moveCard, moveCardInto}
+use Rattle.store_move.specs.declared.Moved.{Moved}
+use Rattle.store_move.specs.declared.Moved.the-variants.{Image, Refused}
 
 -- an opening with the rights of three certificates, a command with any session and any response buffer, or a move by a list of rooms into
--- any target
+-- any target [C3]
 pub data Call : Type 0 where
   Open : List ℕ → Call
   Command : Session → List ℕ → List ℕ → Call
   Move : List ℕ → List ℕ → Call
 
--- the card goes on as the new image, which is the first bytes of the target t; where the move is refused it goes on as it was
-abbrev pub goesOn : Moved → List ℕ → List ℕ → List ℕ
-goesOn (Image n) t img = take n t
-goesOn (Refused w) t img = img
+-- the card goes on as the new image, which is the first bytes of the target t; where the move is refused it goes on as it was [M14]
+abbrev pub imageAfterMove : Moved → List ℕ → List ℕ → List ℕ
+imageAfterMove (Image n) t img = take n t
+imageAfterMove (Refused w) t img = img
 
--- the image after a call; opening has no image
-unfoldable pub next : List ℕ → Call → List ℕ
-next img (Open rights) = img
-next img (Command s cmd buf) = step img s cmd buf .image
-next img (Move list t) = goesOn (carry img list (length t)) (carryInto img list t) img
+-- the image after a call; opening has no image [C3] [M14]
+unfoldable pub afterCall : List ℕ → Call → List ℕ
+afterCall img (Open rights) = img
+afterCall img (Command s cmd buf) = step img s cmd buf .image
+afterCall img (Move list t) = imageAfterMove (moveCard img list (length t)) (moveCardInto img list t) img
 
--- the image after calls, one after the other
+-- the image after calls, one after the other [C3]
 unfoldable pub after : List ℕ → List Call → List ℕ
 after img [] = img
-after img (c ∷ cs) = after (next img c) cs
+after img (c ∷ cs) = after (afterCall img c) cs
 
--- the command's CLA and INS
+-- the command's CLA and INS [H1] [C7]
 unfoldable pub isPair : Frame → ℕ → ℕ → Bool
-isPair f cla ins = every (eqb (f .header .cla) cla ∷ eqb (f .header .ins) ins ∷ [])
+isPair f cla ins = allOf (eqb (f .header .cla) cla ∷ eqb (f .header .ins) ins ∷ [])
 
--- the kind of the record file that steps 7 to 9 reach; no file has 0
-unfoldable pub fileOf : Reached → ℕ
-fileOf (Stop w) = 0
-fileOf (At (Records r)) = r .kind
-fileOf (At Missing) = 0
-fileOf (At Info) = 0
-fileOf (At Dir) = 0
-fileOf (At (Biometrics n)) = 0
+-- steps 7 to 9 answer the record file of kind k [C7]
+abbrev pub isOfKind : ResolvedRecord → ℕ → Bool
+isOfKind (RecordStop w) k = false
+isOfKind (RecordAt r) k = eqb (r .kind) k
 
--- "the data of each APPEND RECORD to that file answered 9000": of a command answered with the status w
+-- what a command adds to the records of the file of kind k, where it is answered with the status w: the data field of an APPEND RECORD
+-- to that file that is answered 9000 [C7]
 abbrev pub addedBy : ℕ → List ℕ → Session → List ℕ → ℕ → Apdu → List (List ℕ)
 addedBy k img s cmd w Bad = []
 addedBy k img s cmd w (Good f) =
-    pick
-    (every (isPair f 0x00 0xE2 ∷ eqb w 0x9000 ∷ eqb (fileOf (reach img s AppendRecord (orCurrent (f .header .p2 / 8)))) k ∷ []))
+    ifElse
+    (allOf (isPair f 0x00 0xE2 ∷ eqb w 0x9000 ∷ isOfKind (resolveRecord img s Append (orCurrent (f .header .p2 / 8))) k ∷ []))
     (part cmd (f .from) (f .lc) ∷ [])
     []
 
--- of a call; "the list of a file's records is unchanged" by a move
+-- what a call adds; a move adds nothing [C7] [M15]
 unfoldable pub added : ℕ → List ℕ → Call → List (List ℕ)
 added k img (Open rights) = []
 added k img (Command s cmd buf) = addedBy k img s cmd (step img s cmd buf .answer .status) (shapeOf cmd)
 added k img (Move list t) = []
 
--- "in order"
+-- what calls add, in order [C7]
 unfoldable pub additions : ℕ → List ℕ → List Call → List (List ℕ)
 additions k img [] = []
-additions k img (c ∷ cs) = added k img c ++ additions k (next img c) cs
+additions k img (c ∷ cs) = added k img c ++ additions k (afterCall img c) cs
 
--- "the records there at the start, then the data of each APPEND RECORD to that file answered 9000, in order"
+-- the list of a file: its first records, then every append that was answered 9000 [C7]
 unfoldable pub history : ℕ → List ℕ → List Call → List (List ℕ)
 history k img cs = recordsOf img k ++ additions k img cs

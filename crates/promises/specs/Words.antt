@@ -1,9 +1,9 @@
--- The status words of document 01.
+-- The status words, written out: the promises do not take them from the machine.
 use Prim.Native.Nat.{ℕ}
 use mathlib.Core.List.{List, [], _∷_}
 
--- 9000; 6282, by which a search tells that none matches; then "Order of status words": those of steps 1 to 9 as they first stand there,
--- and those that step 10 has of its own
+-- 9000; 6282, by which a search tells that none matches; then those of steps 1 to 9 in their order,
+-- and those that step 10 has of its own [O12]
 unfoldable pub words : List ℕ
 words =
     0x9000

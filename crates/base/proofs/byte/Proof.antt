@@ -1,4 +1,4 @@
--- `base::byte` meets its contract.
+-- `base::byte` meets its contract: within the list it is the byte, and past the end 0.
 use borrow.Author.Needs.{needs}
 use mathlib.Core.Path.{refl, sym}
 use native.Mathlib.Omega.{arith}

@@ -1,4 +1,5 @@
--- `base::copy_in` meets its contract.
+-- `base::copy_in` meets its contract. Invariant: the first i bytes of src are stored in dst from `at` on, and dst is as long as it was. A
+-- turn stores one byte more (`sets-turn`); at the end all are stored (`sets-done`). Measure: the bytes of src that are left.
 use mathlib.Core.Path.{_≡_, refl}
 use Prim.Native.Nat.{_-_, _≤_}
 use native.Mathlib.Omega.{arith}

@@ -1,4 +1,4 @@
--- `base::part` meets its contract.
+-- `base::part` meets its contract: each of the three ways to cut is the definition's, by the laws of Parts.
 use borrow.Author.Needs.{needs}
 use mathlib.Core.Path.{sym, _∙_}
 use native.Mathlib.Omega.{arith}

@@ -1,6 +1,6 @@
 -- `machine::apply` meets its contract.
 use mathlib.Core.Path.{refl}
-use Rattle.effects.proofs.Saying.{said-only}
+use Rattle.machine_answer.proofs.Saying.{says-only}
 use Rattle.machine.proofs.Saying.{same-file}
 use Rattle.machine.specs.Effects.{done}
 use borrow.Author.Needs.{needs}
@@ -10,8 +10,8 @@ use Rattle.machine.proofs.apply.Tie as tie
 enum-known-d : tie.Need-enum-known-d
 enum-known-d c = search needs
 
-only-requires : tie.Need-only-requires
-only-requires c κs = search needs
+status-only-requires : tie.Need-status-only-requires
+status-only-requires c κs = search needs
 
 enum-known-d-2 : tie.Need-enum-known-d-2
 enum-known-d-2 c = search needs
@@ -19,8 +19,8 @@ enum-known-d-2 c = search needs
 entered-requires : tie.Need-entered-requires
 entered-requires c κs = search needs
 
-only-requires-2 : tie.Need-only-requires-2
-only-requires-2 c κs = search needs
+status-only-requires-2 : tie.Need-status-only-requires-2
+status-only-requires-2 c κs = search needs
 
 enum-known-d-3 : tie.Need-enum-known-d-3
 enum-known-d-3 c = search needs
@@ -31,20 +31,20 @@ id-of-requires c κs = search needs
 placed-requires : tie.Need-placed-requires
 placed-requires c κs = search needs
 
-only-requires-3 : tie.Need-only-requires-3
-only-requires-3 c κs = search needs
+status-only-requires-3 : tie.Need-status-only-requires-3
+status-only-requires-3 c κs = search needs
 
 enum-known-d-4 : tie.Need-enum-known-d-4
 enum-known-d-4 c = search needs
 
-bytes-requires : tie.Need-bytes-requires
-bytes-requires c κs = let a = rw (c .before .before .before .d4 .given .1) at (c .before .before .before .before .before .before .before .before .pre .2) in (c .before .before .before .before .before .before .before .before .pre .1, a .1, a .2)
+read-binary-requires : tie.Need-read-binary-requires
+read-binary-requires c κs = let a = rw (c .before .before .before .d4 .given .1) at (c .before .before .before .before .before .before .before .before .pre .2) in (c .before .before .before .before .before .before .before .before .pre .1, a .0, a .1)
 
 enum-known-d-5 : tie.Need-enum-known-d-5
 enum-known-d-5 c = search needs
 
-write-requires : tie.Need-write-requires
-write-requires c κs = search needs
+update-requires : tie.Need-update-requires
+update-requires c κs = search needs
 
 enum-known-d-6 : tie.Need-enum-known-d-6
 enum-known-d-6 c = search needs
@@ -61,14 +61,14 @@ append-requires c κs = search needs
 enum-known-d-8 : tie.Need-enum-known-d-8
 enum-known-d-8 c = search needs
 
-read-requires : tie.Need-read-requires
-read-requires c κs = (c .before .before .before .before .before .before .before .before .pre .0, c .before .before .before .before .before .before .before .before .pre .1, rw (c .before .before .before .d8 .given .1) at (c .before .before .before .before .before .before .before .before .pre .2))
+read-record-requires : tie.Need-read-record-requires
+read-record-requires c κs = (c .before .before .before .before .before .before .before .before .pre .0, (c .before .before .before .before .before .before .before .before .pre .1), rw (c .before .before .before .d8 .given .1) at (c .before .before .before .before .before .before .before .before .pre .2))
 
 enum-known-d-9 : tie.Need-enum-known-d-9
 enum-known-d-9 c = search needs
 
-seek-requires : tie.Need-seek-requires
-seek-requires c κs = (c .before .before .before .before .before .before .before .before .pre .0, c .before .before .before .before .before .before .before .before .pre .1, rw (c .before .before .before .d9 .given .1) at (c .before .before .before .before .before .before .before .before .pre .2))
+search-requires : tie.Need-search-requires
+search-requires c κs = (c .before .before .before .before .before .before .before .before .pre .0, (c .before .before .before .before .before .before .before .before .pre .1), rw (c .before .before .before .d9 .given .1) at (c .before .before .before .before .before .before .before .before .pre .2))
 
 enum-known-d-10 : tie.Need-enum-known-d-10
 enum-known-d-10 c = search needs
@@ -81,21 +81,21 @@ same-length c = search needs
 
 returns : tie.Need-returns
 unfolding done
-returns c = rw (c .before .before .before .before .before .d .given .1) (said-only _ _ _ _ refl refl (c .before .before .only .ensures))
+returns c = rw (c .before .before .before .before .before .d .given .1) (says-only _ _ _ _ refl refl (c .before .before .status-only .ensures))
 
 same-length-2 : tie.Need-same-length-2
 same-length-2 c = search needs
 
 returns-2 : tie.Need-returns-2
 unfolding done
-returns-2 c = rw (c .before .before .before .before .before .before .d2 .given .1) (said-only _ _ _ _ (c .before .before .before .before .entered .ensures) refl (c .before .before .only2 .ensures))
+returns-2 c = rw (c .before .before .before .before .before .before .d2 .given .1) (says-only _ _ _ _ (c .before .before .before .before .entered .ensures) refl (c .before .before .status-only2 .ensures))
 
 same-length-3 : tie.Need-same-length-3
 same-length-3 c = search needs
 
 returns-3 : tie.Need-returns-3
 unfolding done
-returns-3 c = rw (c .before .before .before .before .before .before .before .d3 .given .1) (said-only _ _ _ _ (same-file (c .before .before .before .before .before .before .before .before .before .before .before .before .args .s) (c .before .before .before .before .placed .ensures) (c .before .before .before .before .before .id-of .ensures)) refl (c .before .before .only3 .ensures))
+returns-3 c = rw (c .before .before .before .before .before .before .before .d3 .given .1) (says-only _ _ _ _ (same-file (c .before .before .before .before .before .before .before .before .before .before .before .before .args .s) (c .before .before .before .before .placed .ensures) (c .before .before .before .before .before .id-of .ensures)) refl (c .before .before .status-only3 .ensures))
 
 same-length-4 : tie.Need-same-length-4
 same-length-4 c = search needs
@@ -105,7 +105,7 @@ same-length-5 c = search needs
 
 returns-4 : tie.Need-returns-4
 unfolding done
-returns-4 c = rw (c .before .before .before .before .before .before .d4 .given .1) (c .before .before .bytes .ensures)
+returns-4 c = rw (c .before .before .before .before .before .before .d4 .given .1) (c .before .before .read-binary .ensures)
 
 same-length-6 : tie.Need-same-length-6
 same-length-6 c = search needs
@@ -115,7 +115,7 @@ same-length-7 c = search needs
 
 returns-5 : tie.Need-returns-5
 unfolding done
-returns-5 c = rw (c .before .before .before .before .before .before .before .before .d5 .given .1) (c .before .before .before .before .write .ensures)
+returns-5 c = rw (c .before .before .before .before .before .before .before .before .d5 .given .1) (c .before .before .before .before .update .ensures)
 
 same-length-8 : tie.Need-same-length-8
 same-length-8 c = search needs
@@ -145,7 +145,7 @@ same-length-13 c = search needs
 
 returns-8 : tie.Need-returns-8
 unfolding done
-returns-8 c = rw (c .before .before .before .before .before .before .d8 .given .1) (c .before .before .read .ensures)
+returns-8 c = rw (c .before .before .before .before .before .before .d8 .given .1) (c .before .before .read-record .ensures)
 
 same-length-14 : tie.Need-same-length-14
 same-length-14 c = search needs
@@ -155,7 +155,7 @@ same-length-15 c = search needs
 
 returns-9 : tie.Need-returns-9
 unfolding done
-returns-9 c = rw (c .before .before .before .before .before .before .d9 .given .1) (c .before .before .seek .ensures)
+returns-9 c = rw (c .before .before .before .before .before .before .d9 .given .1) (c .before .before .search .ensures)
 
 same-length-16 : tie.Need-same-length-16
 same-length-16 c = search needs
@@ -172,26 +172,26 @@ apply-spec =
     tie.close
     (tie.spec
     enum-known-d
-    only-requires
+    status-only-requires
     enum-known-d-2
     entered-requires
-    only-requires-2
+    status-only-requires-2
     enum-known-d-3
     id-of-requires
     placed-requires
-    only-requires-3
+    status-only-requires-3
     enum-known-d-4
-    bytes-requires
+    read-binary-requires
     enum-known-d-5
-    write-requires
+    update-requires
     enum-known-d-6
     activate-requires
     enum-known-d-7
     append-requires
     enum-known-d-8
-    read-requires
+    read-record-requires
     enum-known-d-9
-    seek-requires
+    search-requires
     enum-known-d-10
     report-requires
     same-length

@@ -1,6 +1,6 @@
 -- `malquindo::keep` meets its contract.
-use Rattle.malquindo.specs.Face.{sessionAfter}
 use borrow.Author.Tests.{eq-eqb, ne-eqb}
+use Rattle.malquindo.specs.Face.{sessionAfter}
 use borrow.Author.Needs.{needs}
 use Rattle.malquindo.proofs.keep.Statement.{statement}
 use Rattle.malquindo.proofs.keep.Tie as tie
@@ -17,7 +17,7 @@ same-length c = search needs
 
 returns-2 : tie.Need-returns-2
 unfolding sessionAfter
-returns-2 c = simp (eq-eqb _ _ (c .before .before .before .before .if1 .left), c .before .before .put-session .ensures .1)
+returns-2 c = simp (eq-eqb _ _ (c .before .before .before .before .if1 .left), (c .before .before .put-session .ensures .1))
 
 pub keep-spec : {M : Type 1} → statement M
 keep-spec = tie.close (tie.spec returns put-session-requires same-length returns-2)

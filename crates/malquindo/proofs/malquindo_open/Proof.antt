@@ -10,8 +10,8 @@ open-requires c κs = search needs
 put-session-requires : tie.Need-put-session-requires
 put-session-requires c κs = search needs
 
-open-refusal-requires : tie.Need-open-refusal-requires
-open-refusal-requires c κs = search needs
+opening-verdict-requires : tie.Need-opening-verdict-requires
+opening-verdict-requires c κs = search needs
 
 result-requires : tie.Need-result-requires
 result-requires c κs = search needs
@@ -21,7 +21,7 @@ same-length c = search needs
 
 returns : tie.Need-returns
 unfolding openResult openSession
-returns c = (simp (c .result .ensures, c .before .open-refusal .ensures, c .before .before .before .before .put-session .ensures .0, c .before .before .before .before .before .before .before .«open» .ensures), simp (c .before .before .before .before .put-session .ensures .1, c .before .before .before .before .before .before .before .«open» .ensures))
+returns c = (simp (c .result .ensures, (c .before .opening-verdict .ensures), (c .before .before .before .before .put-session .ensures .0), c .before .before .before .before .before .before .before .«open» .ensures), simp (c .before .before .before .before .put-session .ensures .1, c .before .before .before .before .before .before .before .«open» .ensures))
 
 pub malquindo-open-spec : {M : Type 1} → statement M
 malquindo-open-spec =
@@ -29,7 +29,7 @@ malquindo-open-spec =
     (tie.spec
     open-requires
     put-session-requires
-    open-refusal-requires
+    opening-verdict-requires
     result-requires
     same-length
     returns)

@@ -4,8 +4,8 @@ use borrow.Author.Needs.{needs}
 use Rattle.malquindo.proofs.result.Statement.{statement}
 use Rattle.malquindo.proofs.result.Tie as tie
 
-number-of-requires : tie.Need-number-of-requires
-number-of-requires c κs = search needs
+verdict-number-requires : tie.Need-verdict-number-requires
+verdict-number-requires c κs = search needs
 
 mul-result : tie.Need-mul-result
 mul-result c = search needs
@@ -21,8 +21,9 @@ add-result-2 c = search needs
 
 returns : tie.Need-returns
 unfolding resultOf
-returns c = simp (c .number-of .ensures .0)
+returns c = simp (c .verdict-number .ensures .0)
 
 pub result-spec : {M : Type 1} → statement M
 result-spec =
-    tie.close (tie.spec number-of-requires mul-result mul-result-2 add-result add-result-2 returns)
+    tie.close
+    (tie.spec verdict-number-requires mul-result mul-result-2 add-result add-result-2 returns)

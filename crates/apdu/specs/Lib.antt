@@ -1,2 +1,0 @@
--- What the contracts of command bytes cite.
-pub mod Shape

@@ -1,3 +1,0 @@
--- The bodies of biometrics files (document 01), the rule table, and what a section's body must be by its kind.
-pub mod Biometrics
-pub mod Rules

@@ -1,4 +1,0 @@
-// The bodies of biometrics files (document 01), and the rules of the files. Every function takes any bytes; what is not well formed gets the
-// answer that says so.
-pub mod biometrics;
-pub mod rules;

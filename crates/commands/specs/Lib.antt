@@ -1,2 +1,0 @@
--- Steps 1 to 3, and then the command.
-pub mod Decide

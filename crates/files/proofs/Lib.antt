@@ -1,4 +1,0 @@
--- Laws of the files of a card.
-pub mod Entries
-pub mod Contents
-pub mod Meant

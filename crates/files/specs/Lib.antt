@@ -1,3 +1,0 @@
--- The files of a card: what the contracts cite.
-pub mod Master
-pub mod Files

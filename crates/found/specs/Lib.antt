@@ -1,2 +1,0 @@
--- SEARCH RECORD: the data returned.
-pub mod Found

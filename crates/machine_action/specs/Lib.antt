@@ -1,0 +1,2 @@
+-- What a command comes to, and the tests that commands share.
+pub mod Tests

@@ -1,0 +1,3 @@
+-- What the contracts of command bytes cite.
+pub mod Shape
+pub mod Status

@@ -1,0 +1,4 @@
+-- Commands on transparent files: the ten steps of each in their order.
+pub mod ReadBinary
+pub mod UpdateBinary
+pub mod Activate

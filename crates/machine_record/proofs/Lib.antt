@@ -1,0 +1,2 @@
+-- Laws of the commands on record files.
+pub mod Searched

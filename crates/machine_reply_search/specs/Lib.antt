@@ -1,0 +1,3 @@
+-- The reply of SEARCH RECORD: what the contracts cite.
+pub mod Found
+pub mod Loops

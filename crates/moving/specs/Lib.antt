@@ -1,3 +1,0 @@
--- The move of a card to other rooms.
-pub mod Moving
-pub mod Standing

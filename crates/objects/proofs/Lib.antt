@@ -1,9 +1,0 @@
--- Laws of data objects that proofs cite.
-pub mod Lengths
-pub mod NumberRead
-pub mod Steps
-pub mod Within
-pub mod Heads
-pub mod Unique
-pub mod Exact
-pub mod Taking

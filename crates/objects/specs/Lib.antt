@@ -1,5 +1,0 @@
--- What the contracts of data objects cite.
-pub mod Head
-pub mod Form
-pub mod Encoding
-pub mod Places

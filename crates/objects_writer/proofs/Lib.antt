@@ -1,0 +1,5 @@
+-- Laws of written data objects that proofs cite, those of the replies too.
+pub mod Numbers
+pub mod Writings
+pub mod Storing
+pub mod Sizes

@@ -1,0 +1,95 @@
+// A move of the card to a new file: `move FILE KIND LENGTH KIND LENGTH ...`, each kind in hexadecimal, the length of its room in decimal.
+use crate::hex;
+use crate::listing;
+use crate::text;
+use program_console::result;
+use program_console::words;
+
+// More rows than a card has kinds.
+const MOST: usize = 100;
+
+// Stores a row of the list.
+fn store(list: &mut [u8], n: usize, kind: usize, len: usize) -> bool {
+    let row = [
+        (len % 256) as u8,
+        (len / 256 % 256) as u8,
+        (len / 65536 % 256) as u8,
+        (len / 16777216 % 256) as u8,
+        (kind % 256) as u8,
+        (kind / 256 % 256) as u8,
+    ];
+    base::put(list, n % MOST * 6, &row)
+}
+
+// Reads row n, a kind and a length, from `at` on. Answers whether it could be read.
+fn row(s: &[u8], at: usize, list: &mut [u8], n: usize) -> bool {
+    let kind = hex::number(text::word(s, at), true);
+    let len = hex::number(text::word(s, text::next(s, at)), false);
+    if 65535 < kind {
+        return false;
+    }
+    if hex::NONE <= len {
+        return false;
+    }
+    store(list, n, kind, len)
+}
+
+// Reads rows from `from` on. Answers how many, or MOST where one cannot be read or there are too many.
+fn rows(s: &[u8], from: usize, list: &mut [u8]) -> usize {
+    let mut at = text::start(s, from);
+    let mut n = 0;
+    while n < MOST {
+        if s.len() <= at {
+            return n;
+        }
+        if !row(s, at, list, n) {
+            return MOST;
+        }
+        at = text::next(s, text::next(s, at));
+        n += 1;
+    }
+    MOST
+}
+
+// Makes a file of the new card's image, and says what it holds.
+fn save(name: &[u8], bytes: &[u8]) {
+    let fd = os::create(name);
+    if fd < 0 {
+        program_console::word(b"! the new card's file cannot be made, or is there already\n");
+        return;
+    }
+    if !io::write_all(fd, bytes) {
+        program_console::word(b"! the new card's file could not be written whole\n");
+        libc::close(fd);
+        return;
+    }
+    libc::close(fd);
+    program_console::word(b"= moved to a new file\n");
+    listing::card(bytes);
+}
+
+// Moves the card to a new file.
+fn move_to(name: &[u8], list: &[u8], image: &[u8]) {
+    let mut target = program_console::room();
+    let r = malquindo::malquindo_move(image, list, &mut target);
+    if result::refusal(r) != 0 {
+        words::refusal(result::refusal(r));
+        return;
+    }
+    save(name, base::part(&target, 0, result::moved_length(r)));
+}
+
+// A move's line, behind its first word. Answers whether it could be read.
+pub(crate) fn line(s: &[u8], image: &[u8]) -> bool {
+    let at = text::start(s, 0);
+    let mut list = [0; 600];
+    let n = rows(s, text::next(s, at), &mut list);
+    if MOST <= n {
+        return false;
+    }
+    if s.len() <= at {
+        return false;
+    }
+    move_to(text::word(s, at), base::part(&list, 0, n * 6), image);
+    true
+}

@@ -1,7 +1,0 @@
--- Laws of the card image, by what they are about.
-pub mod Sections
-pub mod Presence
-pub mod Splicing
-pub mod Files
-pub mod Laws
-pub mod Walking

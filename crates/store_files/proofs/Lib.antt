@@ -1,0 +1,5 @@
+-- Laws of the files of a card.
+pub mod Entries
+pub mod Aids
+pub mod Contents
+pub mod Meant

@@ -1,0 +1,5 @@
+-- Laws of record bodies, by what they are about. The layers above the store cite Walks, and of the others what store_image's Laws repeats.
+pub mod Numbers
+pub mod Bodies
+pub mod Walks
+pub mod Appending

@@ -1,0 +1,230 @@
+// Runs cases through the functions for C, and answers each call by a line. The cases and the lines are made by an independent
+// implementation (host/). Standard input is the cases, one behind the other, each by its first byte:
+// 1, an image: its length (4 bytes, little-endian), its bytes. It is the card's image from now on.
+// 2, a session: its length (1 byte), its bytes. They are the session's bytes from now on, and no more.
+// 3, an opening: the length of the rights (2 bytes, little-endian), the rights. The line: the result, the session's bytes.
+// 4, a command: the length of the response buffer (2 bytes, little-endian), that of the command (2 bytes, little-endian), the
+//    command. The response buffer is filled with A5. The line: the result, the answer (`-` where there is none), the session's bytes, a
+//    hash of the image, a hash of the response buffer.
+// 5, a move: the length of the target (4 bytes, little-endian), that of the list (2 bytes, little-endian), the list. The target is filled
+//    with A5. The line: the result, a hash of the target. Without a refusal the card's image is from now on the first bytes of the
+//    target, as many as the result says.
+use program_console::result;
+use store_records::little::read16;
+use store_records::little::read32;
+ghost use mathlib.Core.Path.{_≡_};
+ghost use lib.ListN.{length};
+
+// What is left of the input behind a case, how long the card's image and the session are.
+struct Turn {
+    left: usize,
+    image: usize,
+    session: usize,
+}
+
+// A case that is torn leaves no less than there is.
+fn torn(s: &[u8]) -> Turn {
+    Turn {
+        left: s.len(),
+        image: 0,
+        session: 0,
+    }
+}
+
+// FNV-1a in 32 bits.
+fn hash(s: &[u8]) -> u64 {
+    let mut h: u64 = 2166136261;
+    let mut i = 0;
+    while i < s.len() {
+        h = (h ^ (base::byte(s, i) as u64)) % 4294967296 * 16777619 % 4294967296;
+        i += 1;
+    }
+    h
+}
+
+// A new image, by what stands behind the case's first byte.
+fn image(s: &[u8], card: &mut [u8], session: usize) -> Turn {
+    let bytes = base::part(s, 4, s.len());
+    let n = read32(s, 0);
+    if bytes.len() < n {
+        return torn(s);
+    }
+    if card.len() < n {
+        return torn(s);
+    }
+    base::put(card, 0, base::part(bytes, 0, n));
+    Turn {
+        left: bytes.len() - n,
+        image: n,
+        session,
+    }
+}
+
+// New session bytes.
+fn session(s: &[u8], kept: &mut [u8], image: usize) -> Turn {
+    let bytes = base::part(s, 1, s.len());
+    let n = base::byte(s, 0);
+    if bytes.len() < n {
+        return torn(s);
+    }
+    if kept.len() < n {
+        return torn(s);
+    }
+    base::put(kept, 0, base::part(bytes, 0, n));
+    Turn {
+        left: bytes.len() - n,
+        image,
+        session: n,
+    }
+}
+
+// The line of an opening.
+fn open(rights: &[u8], kept: &mut [u8]) {
+    program_console::number(malquindo::malquindo_open(rights, kept));
+    program_console::bytes(kept);
+    program_console::end();
+}
+
+// An opening.
+fn opening(s: &[u8], kept: &mut [u8], image: usize, n: usize) -> Turn {
+    let bytes = base::part(s, 2, s.len());
+    let m = read16(s, 0);
+    if bytes.len() < m {
+        return torn(s);
+    }
+    if kept.len() < n {
+        return torn(s);
+    }
+    open(base::part(bytes, 0, m), &mut kept[..n]);
+    Turn {
+        left: bytes.len() - m,
+        image,
+        session: n,
+    }
+}
+
+fn filled() -> [u8; 4096]
+    ensures { λ r. ⌜ 4096 ≡ length r ⌝ }
+{
+    [0xA5; 4096]
+}
+
+// The line of a command.
+fn run(image: &mut [u8], kept: &mut [u8], command: &[u8], response: &mut [u8]) {
+    let r = malquindo::malquindo_command(image, kept, command, response);
+    program_console::number(r);
+    program_console::bytes(base::part(response, 0, result::length(r)));
+    program_console::bytes(kept);
+    program_console::word(b" ");
+    program_console::number(hash(image));
+    program_console::word(b" ");
+    program_console::number(hash(response));
+    program_console::end();
+}
+
+// A command.
+fn command(s: &[u8], card: &mut [u8], image: usize, kept: &mut [u8], n: usize) -> Turn {
+    let bytes = base::part(s, 4, s.len());
+    let m = read16(s, 0);
+    let c = read16(s, 2);
+    let mut response = filled();
+    if bytes.len() < c {
+        return torn(s);
+    }
+    if response.len() < m {
+        return torn(s);
+    }
+    if card.len() < image {
+        return torn(s);
+    }
+    if kept.len() < n {
+        return torn(s);
+    }
+    run(
+        &mut card[..image],
+        &mut kept[..n],
+        base::part(bytes, 0, c),
+        &mut response[..m],
+    );
+    Turn {
+        left: bytes.len() - c,
+        image,
+        session: n,
+    }
+}
+
+// A target for a move.
+fn fresh() -> [u8; 262144]
+    ensures { λ r. ⌜ 262144 ≡ length r ⌝ }
+{
+    [0xA5; 262144]
+}
+
+// The line of a move. Answers how long the card's image is then.
+fn move_to(card: &mut [u8], image: usize, list: &[u8], target: &mut [u8]) -> usize {
+    let r = malquindo::malquindo_move(base::part(card, 0, image), list, target);
+    program_console::number(r);
+    program_console::word(b" ");
+    program_console::number(hash(target));
+    program_console::end();
+    if result::refusal(r) != 0 {
+        return image;
+    }
+    let n = result::moved_length(r);
+    base::put(card, 0, base::part(target, 0, n));
+    n
+}
+
+// A move.
+fn moved(s: &[u8], card: &mut [u8], image: usize, session: usize) -> Turn {
+    let bytes = base::part(s, 6, s.len());
+    let m = read32(s, 0);
+    let n = read16(s, 4);
+    let mut target = fresh();
+    if bytes.len() < n {
+        return torn(s);
+    }
+    if target.len() < m {
+        return torn(s);
+    }
+    let now = move_to(card, image, base::part(bytes, 0, n), &mut target[..m]);
+    Turn {
+        left: bytes.len() - n,
+        image: now,
+        session,
+    }
+}
+
+// Answers the case that s starts with.
+fn case(s: &[u8], card: &mut [u8], i: usize, kept: &mut [u8], n: usize) -> Turn {
+    let rest = base::part(s, 1, s.len());
+    match base::byte(s, 0) {
+        1 => image(rest, card, n),
+        2 => session(rest, kept, i),
+        3 => opening(rest, kept, i, n),
+        4 => command(rest, card, i, kept, n),
+        5 => moved(rest, card, i, n),
+        _ => torn(s),
+    }
+}
+
+// Answers the cases of s, up to the first that is torn or unknown.
+fn cases(s: &[u8], card: &mut [u8], kept: &mut [u8]) {
+    let mut image = 0;
+    let mut session = 0;
+    let mut at = 0;
+    while at < s.len() {
+        let t = case(base::part(s, at, s.len()), card, image, kept, session);
+        image = t.image;
+        session = t.session;
+        at = program_console::cases::next(s, at, t.left);
+    }
+}
+
+fn main() {
+    let mut input = program_console::room();
+    let mut card = program_console::room();
+    let mut kept = [0; 64];
+    let n = io::read_full(0, &mut input);
+    cases(&input[..n], &mut card, &mut kept);
+}

@@ -1,3 +1,0 @@
--- What the contracts of the match in a window cite.
-pub mod Window
-pub mod Seeking

@@ -1,0 +1,180 @@
+#!/usr/bin/env python3
+"""Makes what the program `test_worked` is run on, and what it must write: crates/test_worked/stdin and stdout.
+
+The cases are the card to try of docs/RULES.md. The answers are the ones that its source prints; the bytes of an image and of a
+long reply are built here, from the rules of the card image and of SEARCH RECORD. Nothing is taken from the program.
+
+usage: python3 tests/worked/cases.py [--count]     (the same cases each time; --count says how many calls there are)
+"""
+import os
+import sys
+
+stdin, stdout = bytearray(), []
+
+
+# ---- the card image --------------------------------------------------------------------------------------------------------------
+
+def section(kind, body):
+    return len(body).to_bytes(4, "little") + kind.to_bytes(2, "little") + body
+
+
+def records(size, *kept):
+    """A record body of `size` bytes: the count, each record behind its length, then free room."""
+    body = len(kept).to_bytes(2, "little") + b"".join(len(r).to_bytes(2, "little") + r for r in kept)
+    return body + bytes(size - len(body))
+
+
+def biometrics(state, written, room):
+    return bytes([state]) + len(written).to_bytes(4, "little") + written + bytes(room - len(written))
+
+
+def travel(size, *entries):
+    """A card with the travel application, these records in EntryRecords, each body of `size` bytes."""
+    return section(0x0101, records(size, *entries)) + section(0x0102, records(size)) + section(0x011A, records(size))
+
+
+# ---- certificates: flags, travel byte, visa byte, 17 biometrics bytes ------------------------------------------------------------
+
+ALL = bytes([0x07, 0x0F, 0x0F]) + bytes([0xFF] * 17)
+NO_TRAVEL = bytes([0x06]) + ALL[1:]
+ONE_BIT = bytes([0x07, 0, 0]) + bytes([0, 0, 0x80]) + bytes(14)    # biometrics byte 3 = 80
+
+
+# ---- cases -----------------------------------------------------------------------------------------------------------------------
+
+def card(image, certificates=(ALL, ALL, ALL)):
+    stdin.extend(b"\x01" + b"".join(certificates) + len(image).to_bytes(4, "little") + image)
+    stdout.append("0")                      # opening looks at the rights only, and these are 60 bytes
+
+
+def call(command, status, data=""):
+    """A command in hex that is taken, and its answer."""
+    put(command)
+    stdout.append("0 " + (data + status).lower())
+
+
+def refused(command, number):
+    put(command)
+    stdout.append(f"{number} -")            # length 0: no response
+
+
+def put(command):
+    c = bytes.fromhex(command)
+    stdin.extend(b"\x02" + len(c).to_bytes(2, "little") + c)
+
+
+def look(image):
+    stdin.extend(b"\x03")
+    stdout.append("image " + image.hex())
+
+
+SELECT_TRAVEL = "00A4040C07A0000002472001"
+SELECT_BIOMETRICS = "00A4040C07A0000002472003"
+USA, FRA = "5F4403555341", "5F4403465241"
+SEARCH = "7F7619510101A10B800100B006020103020103A307B1058103465241"
+
+
+def append(record):
+    """APPEND RECORD to the file with short id 1, extended where the record is over 255 bytes."""
+    n = len(record)
+    return "00E20008" + (f"{n:02X}" if n < 256 else f"00{n:04X}") + record.hex()
+
+
+def the_card():
+    card(travel(40))
+    call(SELECT_TRAVEL, "9000")                                                   # m1
+    call("00E2000806" + USA, "9000")                                              # m2
+    call("00E2000806" + FRA, "9000")                                              # m3
+    look(travel(40, bytes.fromhex(USA), bytes.fromhex(FRA)))
+    call("00B20105000000", "9000", USA + FRA)                                     # m4
+    call("00B20304000000", "6A83")                                                # m5
+    call("00A200F81C" + SEARCH + "00", "9000", "7F7606510101020102")              # m6
+    call("00A200F81C" + SEARCH.replace("B006020103", "B006020102") + "00", "6282")    # m7: the window is 03 46 52
+    call("805E0107045102010100", "9000", "7F7809810122820100830102")              # m8
+    call(append(bytes(21)), "6A84")                                               # m9
+    call(append(bytes(range(20))), "9000")
+    call(append(bytes(392)), "6700")
+    call(append(bytes(391)), "6A84")
+    call("00B2010400", "6700")                                                    # m10
+    look(travel(40, bytes.fromhex(USA), bytes.fromhex(FRA), bytes(range(20))))
+
+
+def without_the_flag():
+    """m1 where one certificate lacks the travel flag: the first, the second, the third."""
+    for i in range(3):
+        card(travel(40), [NO_TRAVEL if j == i else ALL for j in range(3)])
+        call(SELECT_TRAVEL, "6982")
+        look(travel(40))
+
+
+def found(matches):
+    """The reply to a search by the short id 01: 7F76 {51 01 01, 02 01 nn for each match}."""
+    inner = bytes([0x51, 1, 1]) + b"".join(bytes([2, 1, n]) for n in matches)
+    n = len(inner)
+    length = bytes([n]) if n < 128 else bytes([0x81, n]) if n < 256 else bytes([0x82]) + n.to_bytes(2, "big")
+    return (b"\x7F\x76" + length + inner).hex()
+
+
+def many_matches():
+    card(travel(2000))
+    call(SELECT_TRAVEL, "9000")
+    kept = []
+    short, long = "00A200F81C" + SEARCH + "00", "00A200F800001C" + SEARCH + "0000"
+    for n in range(1, 85):
+        kept.append(bytes.fromhex(FRA))
+        call(append(kept[-1]), "9000")
+        if n in (41, 42, 82, 83):
+            call(short, "9000", found(range(1, n + 1)))
+    assert len(found(range(1, 84))) == 2 * 256 and len(found(range(1, 85))) == 2 * 259
+    call(short, "6700")
+    call(long, "9000", found(range(1, 85)))
+    look(travel(2000, *kept))
+
+
+def update(offset):
+    return f"00D70205075401{offset:02X}5302AABB"
+
+
+def biometrics_card():
+    def image(state, written):
+        return section(0x031A, records(40)) + section(0x0405, biometrics(state, written, 16))
+
+    card(image(0, b""), [ONE_BIT] * 3)
+    call(SELECT_BIOMETRICS, "9000")
+    call(update(0), "9000")
+    look(image(0, bytes.fromhex("AABB")))
+    call(update(3), "6A80")
+    call(update(2), "9000")
+    look(image(0, bytes.fromhex("AABBAABB")))
+    call("00440000", "9000")
+    call("00B0000000", "6982")
+    look(image(1, bytes.fromhex("AABBAABB")))
+
+
+def refusals():
+    """An image that is no card's: a torn section, a record of no bytes, an application that is not whole."""
+    whole = travel(40)
+    torn = whole[:-1]
+    counted = section(0x0101, b"\x01" + records(40)[1:]) + whole[46:]
+    for image in (torn, counted, whole[:92]):
+        card(image)
+        refused(SELECT_TRAVEL, 2)
+        look(image)
+
+
+def main():
+    the_card()
+    without_the_flag()
+    many_matches()
+    biometrics_card()
+    refusals()
+    if "--count" in sys.argv:
+        print(f"{len(stdout)} lines, {sum(not l.startswith('image') for l in stdout)} of them calls, {len(stdin)} bytes of input")
+    home = os.path.join(os.path.dirname(os.path.abspath(__file__)), "..", "..", "crates", "test_worked")
+    with open(os.path.join(home, "stdin"), "wb") as f:
+        f.write(stdin)
+    with open(os.path.join(home, "stdout"), "w") as f:
+        f.write("\n".join(stdout) + "\n")
+
+
+main()
