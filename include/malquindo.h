@@ -1,20 +1,29 @@
 /* Malquindo: a proved file machine for passport chips (LDS2).
  *
- * Command bytes, rights and card image in; response, status word and image out. Secure messaging and keys stay with the
- * layer above. Each function takes any bytes and always ends.
+ * Command bytes, rights and card image go in. Response, status word and image come out. Secure messaging and keys stay with
+ * the layer above.
  *
- * What the caller owes, and nothing checks: each pointer is to as many bytes as its length says, valid for reading and,
- * where it is not const, for writing; no two of the arguments of one call overlap; a length of 0 may come with any pointer
- * that is not null. No function keeps a pointer.
+ * Memory. The caller owns every buffer. The library reads and writes only the buffers of the call at hand. It keeps no
+ * pointer and no state between calls: what it answers depends on the arguments alone. It allocates nothing; of the C
+ * library it needs memcpy and memset.
  *
- * The result of an opening and of a command is refusal * 2^32 + length * 2^16 + status; that of a move stands with it.
- *   refusal  0 none; 1 response buffer shorter than 2,050 bytes; 2 image not well formed; 3 rights not 60 bytes (opening
- *            only); 4 session does not fit the image, or is none
- *   length   how many bytes of the response the answer has: data, then SW1 SW2 (0 on a refusal)
- *   status   256 * SW1 + SW2 (0 on a refusal)
+ * What the caller must see to. Nothing checks these three:
+ *   - each pointer is to as many bytes as its length says, valid for reading and, where it is not const, for writing;
+ *   - no two buffers of one call overlap;
+ *   - no pointer is null, even where the length is 0.
+ * Beyond that every function takes any bytes and any lengths, and always returns.
  *
- * Unless the status is 0x9000, image and session stay exactly as they came. Of the response only the first `length` bytes
- * change.
+ * Results. A result is one number of 64 bits. Its upper 32 bits are the refusal, 0 where the call is not refused:
+ *    1  command        the response buffer is shorter than MALQUINDO_RESPONSE_LEN
+ *    2  command, move  the image is not well formed
+ *    3  open           the rights are not MALQUINDO_RIGHTS_LEN bytes
+ *    4  open           the session buffer is shorter than MALQUINDO_SESSION_LEN
+ *       command        it is shorter, its bytes are no session, or the session does not fit the image
+ *   10  move           the list lays out no valid image
+ *   11  move           a kind of the old image is not in the list
+ *   12  move           a room is too small for its content
+ *   13  move           the target is shorter than the new image
+ * What the lower 32 bits mean stands with each function. On a refusal they are 0.
  */
 #ifndef MALQUINDO_H
 #define MALQUINDO_H
@@ -26,41 +35,69 @@
 extern "C" {
 #endif
 
-/* How many bytes a session has: 20 rights bytes (flags, travel, visa, 17 biometrics bytes), application (0 master file,
- * 1 travel, 2 visa, 3 biometrics), place (0 none, 1 file, 2 file and record), file id (2 bytes, little-endian), record
- * number; what a place does not use is zero. Bytes past these stay as they are. */
+#define MALQUINDO_RIGHTS_LEN 60     /* the rights of a chain: three certificates of 20 bytes */
+#define MALQUINDO_SESSION_LEN 25    /* a session; malquindo_session_len() says the same */
+#define MALQUINDO_RESPONSE_LEN 2050 /* the shortest response buffer: 2,048 bytes of data, SW1, SW2 */
+#define MALQUINDO_IMAGE_LEN 262144  /* the longest card image */
+
+/* How many bytes a session has: 25.
+ *
+ *   0 to 19  rights: flags, travel, visa, 17 bytes of biometrics
+ *   20       the selected application: 0 master file, 1 travel, 2 visa, 3 biometrics
+ *   21       the current place: 0 none, 1 a file, 2 a file and a record
+ *   22, 23   the id of the current file, little-endian; 0 where there is none
+ *   24       the number of the current record; 0 where there is none
+ *
+ * A session buffer may be longer. Bytes behind the first 25 are neither read nor written. */
 size_t malquindo_session_len(void);
 
-/* Opens a session with the rights of three certificates of 20 bytes each. Refusal 3: rights_len is not 60; the session
- * written is the one that 60 zero bytes open. Refusal 4: session_len is too small. Where it is, nothing is written. */
+/* Opens a session with the rights of three certificates of 20 bytes each.
+ *
+ * Writes the session into the first 25 bytes of the session buffer, where it has as many. It does so on refusal 3 too: that
+ * session is the one that 60 zero bytes open, which has no rights. A shorter buffer stays as it came.
+ *
+ * Refusals, tested in this order: 3, 4. The lower 32 bits of the result are always 0: an opening has no status word. */
 uint64_t malquindo_open(const uint8_t *rights, size_t rights_len, uint8_t *session, size_t session_len);
 
-/* One command. The response buffer has at least 2,050 bytes. */
+/* Runs one command on a card image.
+ *
+ * The lower 32 bits of the result are length * 2^16 + status. The status is 256 * SW1 + SW2. The length says how many bytes
+ * of the response are the answer: the data, then SW1 and SW2. Bytes behind the answer stay as they came.
+ *
+ * Image and session change only where the status is 0x9000. With any other status, and on a refusal, they stay as they came.
+ * The command is only read.
+ *
+ * Refusals, tested in this order: 1, 2, 4. A refused command leaves the response as it came. */
 uint64_t malquindo_command(uint8_t *image, size_t image_len, uint8_t *session, size_t session_len,
                            const uint8_t *command, size_t command_len, uint8_t *response, size_t response_len);
 
-/* Carries a card to rooms of other sizes: writes every file of the old image into the target, each with the room that the
- * list gives it. The list has a row of 6 bytes for each section of the new image, the bytes that stand before the section's
- * body: the body's length L (4 bytes, little-endian), the kind (2 bytes, little-endian). Records keep their numbers,
- * biometrics files their state and what is written; free bytes become zero; a kind that the old image does not have is
- * written empty, a biometrics file Deactivated. Rooms of the same lengths with free bytes already zero give the old image.
+/* Moves a card to rooms of other sizes: writes a new image into the target.
  *
- * The result is refusal * 2^32 + length of the new image (0 on a refusal).
- *   refusal  0 none; then, tested in this order: 2 old image not well formed; 10 the list lays out no valid image: list_len
- *            is no multiple of 6, or the image of these sections with all bodies zero is not well formed (kinds unknown or
- *            not strictly increasing, L below 2 or, of a biometrics file, below 5 or above 32,773, an application not
- *            whole, more than 262,144 bytes in all); 11 a kind of the old image is not in the list; 12 a room is too small
- *            for its content; 13 target_len is below the length of the new image
+ * The list has 6 bytes for each section of the new image, those that stand before the section's body: the body's length
+ * (4 bytes, little-endian), then the kind (2 bytes, little-endian).
  *
- * Of the target only the first `length` bytes change, on a refusal none. Old image and list stay as they are; the caller
- * owes that neither overlaps the target. */
+ * Every file of the old image is in the new one. Records keep their numbers. A biometrics file keeps its state and what is
+ * written. Free bytes become zero. A kind that only the list has becomes an empty file; a biometrics file is Deactivated.
+ *
+ * The lower 32 bits of the result are the length of the new image. Bytes of the target behind it stay as they came. Old
+ * image and list are only read.
+ *
+ * Refusals, tested in this order: 2, 10, 11, 12, 13. A refused move leaves the target as it came. Refusal 10 has these
+ * reasons: list_len is no multiple of 6; a kind is unknown, or not above the one before; a body is shorter than 2 bytes or,
+ * of a biometrics file, shorter than 5 or longer than 32,773; an application is not whole; the image would be longer than
+ * MALQUINDO_IMAGE_LEN. */
 uint64_t malquindo_move(const uint8_t *old, size_t old_len, const uint8_t *list, size_t list_len,
                         uint8_t *target, size_t target_len);
 
+/* The parts of a result. */
+
+/* Of every function: the refusal, 0 for none. */
 static inline unsigned malquindo_refusal(uint64_t result) { return (unsigned)(result >> 32); }
+/* Of a command: the length of the answer. */
 static inline size_t malquindo_length(uint64_t result) { return (size_t)(result >> 16 & 0xFFFF); }
+/* Of a command: the status word. */
 static inline unsigned malquindo_status(uint64_t result) { return (unsigned)(result & 0xFFFF); }
-/* The length of the image that a move wrote. */
+/* Of a move: the length of the new image. */
 static inline size_t malquindo_moved(uint64_t result) { return (size_t)(result & 0xFFFFFFFF); }
 
 #ifdef __cplusplus

@@ -1,5 +1,5 @@
-/* Document 01's card to try: selects travel (m1), appends a record (m2), reads it back (m4); then carries the card to rooms
- * of 100 bytes and reads the record there. */
+/* Selects the travel application of a card, appends a record and reads it back; then moves the card to rooms of 100 bytes
+ * and reads the record there. */
 #include <stdio.h>
 #include "malquindo.h"
 
@@ -9,8 +9,8 @@ static uint8_t image[3 * 46] = {
     [92] = 40, [96] = 0x1A, [97] = 0x01, /* 011A travel certificates */
 };
 static uint8_t larger[3 * 106];
-static uint8_t session[25];
-static uint8_t response[2050];
+static uint8_t session[MALQUINDO_SESSION_LEN];
+static uint8_t response[MALQUINDO_RESPONSE_LEN];
 
 static int run(uint8_t *card, size_t card_len, const uint8_t *command, size_t command_len)
 {
@@ -22,7 +22,7 @@ static int run(uint8_t *card, size_t card_len, const uint8_t *command, size_t co
     return malquindo_status(result) != 0x9000;
 }
 
-static int carry(void)
+static int move_card(void)
 {
     static const uint8_t rooms[] = {100, 0, 0, 0, 0x01, 0x01, 100, 0, 0, 0, 0x02, 0x01, 100, 0, 0, 0, 0x1A, 0x01};
     uint64_t result = malquindo_move(image, sizeof image, rooms, sizeof rooms, larger, sizeof larger);
@@ -31,15 +31,15 @@ static int carry(void)
 
 int main(void)
 {
-    static const uint8_t m1[] = {0x00, 0xA4, 0x04, 0x0C, 0x07, 0xA0, 0x00, 0x00, 0x02, 0x47, 0x20, 0x01};
-    static const uint8_t m2[] = {0x00, 0xE2, 0x00, 0x08, 0x06, 0x5F, 0x44, 0x03, 0x55, 0x53, 0x41};
-    static const uint8_t m4[] = {0x00, 0xB2, 0x01, 0x05, 0x00, 0x00, 0x00};
-    uint8_t rights[60];
+    static const uint8_t select[] = {0x00, 0xA4, 0x04, 0x0C, 0x07, 0xA0, 0x00, 0x00, 0x02, 0x47, 0x20, 0x01};
+    static const uint8_t append[] = {0x00, 0xE2, 0x00, 0x08, 0x06, 0x5F, 0x44, 0x03, 0x55, 0x53, 0x41};
+    static const uint8_t read[] = {0x00, 0xB2, 0x01, 0x05, 0x00, 0x00, 0x00};
+    uint8_t rights[MALQUINDO_RIGHTS_LEN];
     for (size_t i = 0; i < sizeof rights; i++)
         rights[i] = 0xFF;
     if (malquindo_session_len() != sizeof session
         || malquindo_open(rights, sizeof rights, session, sizeof session) != 0)
         return 1;
-    return run(image, sizeof image, m1, sizeof m1) || run(image, sizeof image, m2, sizeof m2)
-        || run(image, sizeof image, m4, sizeof m4) || carry() || run(larger, sizeof larger, m4, sizeof m4);
+    return run(image, sizeof image, select, sizeof select) || run(image, sizeof image, append, sizeof append)
+        || run(image, sizeof image, read, sizeof read) || move_card() || run(larger, sizeof larger, read, sizeof read);
 }

@@ -1,8 +1,8 @@
 //! The calls to time: card, session and command; card and rooms.
 
-use difference::make::{self, Apdu, LONGEST_IMAGE, RULES};
-use difference::random::Random;
-use difference::view;
+use compare::make::{self, Apdu, LONGEST_IMAGE, RULES};
+use compare::random::Random;
+use compare::view;
 
 pub const LONGEST_RECORD: usize = 391;
 pub const MOST_RECORDS: usize = 254;
@@ -104,7 +104,7 @@ fn search(string: &[u8]) -> Apdu {
 }
 
 pub fn select() -> [Case; 2] {
-    let held = "document 01's card (138 bytes)";
+    let held = "the card to try (138 bytes)";
     let small = travel_card(&[], 38);
     let full = travel_card(&random_records(MOST_RECORDS), 0);
     [
@@ -270,7 +270,7 @@ pub fn validation() -> Case {
     case.status(0x6700)
 }
 
-/// A card to carry, and the rooms that it is carried to.
+/// A card to move, and the rooms that it is moved to.
 pub struct Move {
     pub name: String,
     pub held: String,

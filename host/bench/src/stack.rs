@@ -10,7 +10,7 @@ const PAINTS: [u8; 2] = [0xA5, 0x3C];
 
 type Command =
     unsafe extern "C" fn(*mut u8, usize, *mut u8, usize, *const u8, usize, *mut u8, usize) -> u64;
-type Carry = unsafe extern "C" fn(*const u8, usize, *const u8, usize, *mut u8, usize) -> u64;
+type MoveCard = unsafe extern "C" fn(*const u8, usize, *const u8, usize, *mut u8, usize) -> u64;
 /// Makes the call that it is given.
 type Trampoline<C> = unsafe extern "C" fn(*mut C);
 
@@ -26,7 +26,7 @@ struct Call {
 
 /// What the trampoline of a move hands on.
 struct MoveCall<'a> {
-    function: Carry,
+    function: MoveCard,
     case: &'a Move,
     target: Vec<u8>,
     result: u64,
@@ -63,7 +63,7 @@ pub fn of_move(case: &Move) -> usize {
     used - move_depth(case, no_move, 0)
 }
 
-fn move_depth(case: &Move, function: Carry, length: usize) -> usize {
+fn move_depth(case: &Move, function: MoveCard, length: usize) -> usize {
     let deepest = PAINTS.iter().map(|paint| {
         let mut call = MoveCall {
             function,
@@ -109,33 +109,41 @@ unsafe extern "C" fn no_move(
 /// # Safety
 /// `call` points to a call that nothing else uses meanwhile.
 unsafe extern "C" fn trampoline(call: *mut Call) {
-    let call = &mut *call;
-    call.result = (call.function)(
-        call.image.as_mut_ptr(),
-        call.image.len(),
-        call.session.as_mut_ptr(),
-        call.session.len(),
-        call.command.as_ptr(),
-        call.command.len(),
-        call.response.as_mut_ptr(),
-        call.response.len(),
-    );
+    // SAFETY: the caller says so.
+    let call = unsafe { &mut *call };
+    // SAFETY: pointers and lengths are those of four buffers that do not overlap.
+    call.result = unsafe {
+        (call.function)(
+            call.image.as_mut_ptr(),
+            call.image.len(),
+            call.session.as_mut_ptr(),
+            call.session.len(),
+            call.command.as_ptr(),
+            call.command.len(),
+            call.response.as_mut_ptr(),
+            call.response.len(),
+        )
+    };
 }
 
 /// Calls the function with the move's buffers.
 ///
 /// # Safety
 /// `call` points to a call that nothing else uses meanwhile.
-unsafe extern "C" fn move_trampoline(call: *mut MoveCall) {
-    let call = &mut *call;
-    call.result = (call.function)(
-        call.case.old.as_ptr(),
-        call.case.old.len(),
-        call.case.list.as_ptr(),
-        call.case.list.len(),
-        call.target.as_mut_ptr(),
-        call.target.len(),
-    );
+unsafe extern "C" fn move_trampoline(call: *mut MoveCall<'_>) {
+    // SAFETY: the caller says so.
+    let call = unsafe { &mut *call };
+    // SAFETY: pointers and lengths are those of three buffers that do not overlap.
+    call.result = unsafe {
+        (call.function)(
+            call.case.old.as_ptr(),
+            call.case.old.len(),
+            call.case.list.as_ptr(),
+            call.case.list.len(),
+            call.target.as_mut_ptr(),
+            call.target.len(),
+        )
+    };
 }
 
 /// How many bytes from the top down to the lowest one that lost its paint.
@@ -155,7 +163,7 @@ fn painted_depth<C>(paint: u8, trampoline: Trampoline<C>, call: &mut C) -> usize
             "mov rsp, r12",
             top = in(reg) top,
             trampoline = in(reg) trampoline,
-            inout("rdi") call as *mut C => _,
+            inout("rdi") std::ptr::from_mut(call) => _,
             out("r12") _,
             clobber_abi("C"),
         );

@@ -1,7 +1,7 @@
 //! Timing one call of each implementation, in turns.
 
 use crate::cases::{Case, Move};
-use difference::compare::{Machine, PROVED, REFERENCE};
+use compare::sides::{Machine, PROVED, REFERENCE};
 use std::time::{Duration, Instant};
 
 /// A sample of calls that change nothing lasts at least this long, so that the clock's own steps
@@ -41,8 +41,8 @@ pub fn measure_within(case: &Case, budget: Duration) -> Times {
 
 /// Both implementations and a plain copy on the same card, alternating.
 pub fn measure_move(case: &Move) -> MoveTimes {
-    let mut proved = Bench::new(Carry::new(case, &PROVED), false);
-    let mut reference = Bench::new(Carry::new(case, &REFERENCE), false);
+    let mut proved = Bench::new(MoveCard::new(case, &PROVED), false);
+    let mut reference = Bench::new(MoveCard::new(case, &REFERENCE), false);
     let mut copy = Bench::new(Copy::new(case), false);
     let [proved, reference, copy] = in_turns([&mut proved, &mut reference, &mut copy], BUDGET);
     MoveTimes {
@@ -116,30 +116,30 @@ impl Work for Command<'_> {
 }
 
 /// One implementation's move, to the sizes that the card has.
-struct Carry<'a> {
+struct MoveCard<'a> {
     case: &'a Move,
     machine: &'a Machine,
     target: Vec<u8>,
 }
 
-impl<'a> Carry<'a> {
+impl<'a> MoveCard<'a> {
     fn new(case: &'a Move, machine: &'a Machine) -> Self {
-        let mut carry = Self {
+        let mut work = Self {
             case,
             machine,
             target: vec![0xA5; case.old.len()],
         };
-        assert_eq!(carry.call(), case.old.len() as u64, "{}", case.name);
-        assert!(carry.target == case.old, "{}", case.name);
-        carry
+        assert_eq!(work.call(), case.old.len() as u64, "{}", case.name);
+        assert!(work.target == case.old, "{}", case.name);
+        work
     }
 }
 
-impl Work for Carry<'_> {
+impl Work for MoveCard<'_> {
     fn reset(&mut self) {}
 
     fn call(&mut self) -> u64 {
-        (self.machine.carry)(&self.case.old, &self.case.list, &mut self.target)
+        (self.machine.move_card)(&self.case.old, &self.case.list, &mut self.target)
     }
 }
 

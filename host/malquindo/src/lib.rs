@@ -1,7 +1,8 @@
 //! The proved file machine for passport chips (LDS2): command bytes, rights and card image in;
 //! response, status word and image out.
 //!
-//! Document 01's card to try, its commands m1 to m4:
+//! A card with the three files of the travel application: select it, append two records, read
+//! them back.
 //!
 //! ```
 //! // Sections 0101, 0102 and 011A, each a body of 40 bytes with no records.
@@ -18,30 +19,34 @@
 //!         .map(|answer| (answer.data.to_vec(), answer.status))
 //! };
 //!
-//! let m1 = [0x00, 0xA4, 0x04, 0x0C, 7, 0xA0, 0x00, 0x00, 0x02, 0x47, 0x20, 0x01];
+//! let select = [0x00, 0xA4, 0x04, 0x0C, 7, 0xA0, 0x00, 0x00, 0x02, 0x47, 0x20, 0x01];
 //! let usa = [0x5F, 0x44, 0x03, 0x55, 0x53, 0x41];
 //! let fra = [0x5F, 0x44, 0x03, 0x46, 0x52, 0x41];
 //! let append = |record: &[u8; 6]| [&[0x00, 0xE2, 0x00, 0x08, 6], &record[..]].concat();
-//! let m4 = [0x00, 0xB2, 0x01, 0x05, 0x00, 0x00, 0x00];
+//! let read_all = [0x00, 0xB2, 0x01, 0x05, 0x00, 0x00, 0x00];
 //!
-//! assert_eq!(run(&m1)?, (vec![], 0x9000));
+//! assert_eq!(run(&select)?, (vec![], 0x9000));
 //! assert_eq!(run(&append(&usa))?, (vec![], 0x9000));
 //! assert_eq!(run(&append(&fra))?, (vec![], 0x9000));
-//! assert_eq!(run(&m4)?, ([usa, fra].concat(), 0x9000));
+//! assert_eq!(run(&read_all)?, ([usa, fra].concat(), 0x9000));
 //! # Ok::<(), malquindo::Refusal>(())
 //! ```
 //!
-//! A card carried to larger rooms is in [`carry`].
+//! [`move_card`] writes a card anew, with other rooms.
+
+#![forbid(unsafe_code)]
 
 use std::fmt;
 
 /// How many bytes a session has.
 pub const SESSION_LEN: usize = 25;
-/// The shortest response buffer a command takes.
+/// How many bytes the response buffer of a command has at least.
 pub const RESPONSE_LEN: usize = 2_050;
 
-/// A session: 20 rights bytes, application, place, file id and record number. Any 25 bytes may
-/// be one: each command tests whether they are, and whether they fit its image.
+/// A session: 20 rights bytes, application, place, file id and record number.
+///
+/// It can be made of any 25 bytes. Each command tests whether they are a session, and whether it
+/// fits the image.
 #[derive(Clone, Debug, PartialEq, Eq)]
 pub struct Session([u8; SESSION_LEN]);
 
@@ -55,68 +60,90 @@ impl Session {
     }
 }
 
-/// Why a call was refused; the numbers are document 01's, and document 02's for a move.
+/// Why a call was refused. [`Refusal::number`] is the number that the library answers.
 #[derive(Clone, Copy, Debug, PartialEq, Eq)]
 pub enum Refusal {
-    /// The response buffer is shorter than [`RESPONSE_LEN`] bytes.
-    ShortBuffer = 1,
-    /// The image is not well formed.
-    BadImage = 2,
-    /// The rights are not 60 bytes.
-    BadRights = 3,
-    /// The session does not fit the image, or is none.
-    BadSession = 4,
-    /// The list lays out no valid image.
-    BadList = 10,
-    /// The list has no room for a file of the old card.
-    MissingFile = 11,
-    /// A room is too small for what the file holds.
-    SmallRoom = 12,
-    /// The target is shorter than the new image.
-    ShortTarget = 13,
+    /// 1: the response buffer is shorter than [`RESPONSE_LEN`] bytes.
+    ShortBuffer,
+    /// 2: the image is not well formed.
+    BadImage,
+    /// 3: the rights are not 60 bytes.
+    BadRights,
+    /// 4: the session does not fit the image, or its bytes are malformed.
+    BadSession,
+    /// 10: the list of rooms lays out no valid image.
+    BadList,
+    /// 11: the list has no room for a file of the old card.
+    MissingFile,
+    /// 12: a room is too small for what the file holds.
+    SmallRoom,
+    /// 13: the target is shorter than the new image.
+    ShortTarget,
+    /// Any other number. The library that this crate was written for answers none; one of
+    /// another version may.
+    Unknown(u32),
 }
 
 impl Refusal {
-    /// Document 01's number, 1 to 4, or document 02's, 10 to 13.
+    /// The number that the library answers for this refusal.
     pub fn number(self) -> u32 {
-        self as u32
+        match self {
+            Self::ShortBuffer => 1,
+            Self::BadImage => 2,
+            Self::BadRights => 3,
+            Self::BadSession => 4,
+            Self::BadList => 10,
+            Self::MissingFile => 11,
+            Self::SmallRoom => 12,
+            Self::ShortTarget => 13,
+            Self::Unknown(number) => number,
+        }
     }
 
-    /// The refusal of a call's result, if there was one.
-    fn of_result(result: u64) -> Option<Self> {
-        match result >> 32 {
-            0 => None,
-            1 => Some(Self::ShortBuffer),
-            2 => Some(Self::BadImage),
-            3 => Some(Self::BadRights),
-            10 => Some(Self::BadList),
-            11 => Some(Self::MissingFile),
-            12 => Some(Self::SmallRoom),
-            13 => Some(Self::ShortTarget),
-            // The library gives these, 0 and 4, and nothing else.
-            _ => Some(Self::BadSession),
-        }
+    /// The refusal of this number; 0 is none.
+    fn of_number(number: u32) -> Option<Self> {
+        Some(match number {
+            0 => return None,
+            1 => Self::ShortBuffer,
+            2 => Self::BadImage,
+            3 => Self::BadRights,
+            4 => Self::BadSession,
+            10 => Self::BadList,
+            11 => Self::MissingFile,
+            12 => Self::SmallRoom,
+            13 => Self::ShortTarget,
+            other => Self::Unknown(other),
+        })
     }
 }
 
 impl fmt::Display for Refusal {
     fn fmt(&self, f: &mut fmt::Formatter<'_>) -> fmt::Result {
         f.write_str(match self {
-            Self::ShortBuffer => "response buffer shorter than 2,050 bytes",
-            Self::BadImage => "image not well formed",
-            Self::BadRights => "rights not 60 bytes",
-            Self::BadSession => "session does not fit the image, or is none",
-            Self::BadList => "list that lays out no valid image",
-            Self::MissingFile => "file of the old card not in the list",
-            Self::SmallRoom => "room too small for its content",
-            Self::ShortTarget => "target shorter than the new image",
+            Self::ShortBuffer => "the response buffer is shorter than 2,050 bytes",
+            Self::BadImage => "the image is not well formed",
+            Self::BadRights => "the rights are not 60 bytes",
+            Self::BadSession => "the session does not fit the image, or is malformed",
+            Self::BadList => "the list of rooms lays out no valid image",
+            Self::MissingFile => "a file of the old card has no room in the list",
+            Self::SmallRoom => "a room is too small for its content",
+            Self::ShortTarget => "the target is shorter than the new image",
+            Self::Unknown(number) => return write!(f, "refusal {number}, which is not known here"),
         })
     }
 }
 
 impl std::error::Error for Refusal {}
 
-/// What a command taken answers.
+/// The low 32 bits of a result, or the refusal that its high 32 bits say.
+fn accepted(result: u64) -> Result<u32, Refusal> {
+    match Refusal::of_number((result >> 32) as u32) {
+        None => Ok(result as u32),
+        Some(refusal) => Err(refusal),
+    }
+}
+
+/// What a command answers that is not refused.
 #[derive(Clone, Copy, Debug, PartialEq, Eq)]
 pub struct Answer<'r> {
     /// 256 * SW1 + SW2.
@@ -128,10 +155,8 @@ pub struct Answer<'r> {
 /// Opens a session with the rights of three certificates of 20 bytes each.
 pub fn open(rights: &[u8]) -> Result<Session, Refusal> {
     let mut session = [0; SESSION_LEN];
-    match Refusal::of_result(open_raw(rights, &mut session)) {
-        None => Ok(Session(session)),
-        Some(refusal) => Err(refusal),
-    }
+    accepted(malquindo_sys::open(rights, &mut session))?;
+    Ok(Session(session))
 }
 
 /// One command on a card image. Unless the status is 9000, image and session stay as they came.
@@ -141,52 +166,52 @@ pub fn command<'r>(
     command: &[u8],
     response: &'r mut [u8],
 ) -> Result<Answer<'r>, Refusal> {
-    let result = command_raw(image, &mut session.0, command, response);
-    if let Some(refusal) = Refusal::of_result(result) {
-        return Err(refusal);
-    }
-    // A command taken answers at least its two status bytes.
-    let length = usize::from((result >> 16) as u16);
+    let result = malquindo_sys::command(image, &mut session.0, command, response);
+    let low = accepted(result)?;
+    // The length counts the two bytes of the status word.
+    let length = (low >> 16) as usize;
     Ok(Answer {
-        status: result as u16,
+        status: low as u16,
         data: &response[..length - 2],
     })
 }
 
-/// Carries a card to rooms of other sizes: every file of the old image, with its records under
-/// their numbers or its state and bytes; free bytes are zero, and a file that the old image does
-/// not have is empty. The new image is the start of the target, and is answered; the rest of the
-/// target stays. On a refusal all of it does.
+/// Moves a card to rooms of other sizes. Each room is a kind and the length of its body.
 ///
-/// Document 01's card, made and then carried to rooms of 100 bytes:
+/// Every file of the old image is in the new one: its records under their numbers, or its state
+/// and bytes. Free bytes are zero. A file that only the list has is empty. The new image is the
+/// start of the target, and is answered; the rest of the target stays as it came. A move that is
+/// refused leaves all of the target as it came.
+///
+/// A card with one record, moved to rooms of 100 bytes:
 ///
 /// ```
-/// let rooms = |length| malquindo::list(&[0x0101, 0x0102, 0x011A].map(|kind| (kind, length)));
-/// // A chip with nothing on it, carried to three rooms, has three empty files.
+/// let rooms = |length| [0x0101, 0x0102, 0x011A].map(|kind| (kind, length));
+/// // A move of a card without files makes three empty files.
 /// let mut old = [0xFF; 138];
-/// malquindo::carry(&[], &rooms(40), &mut old)?;
+/// malquindo::move_card(&[], &rooms(40), &mut old)?;
 /// // A record of one byte in EntryRecords: the count, the record's length, its byte.
 /// old[6..11].copy_from_slice(&[1, 0, 1, 0, 0x55]);
 ///
 /// let mut target = [0xFF; 400];
-/// let new = malquindo::carry(&old, &rooms(100), &mut target)?;
+/// let new = malquindo::move_card(&old, &rooms(100), &mut target)?;
 /// assert_eq!(new.len(), 318);
 /// assert_eq!(new[6..11], old[6..11]);
 /// assert!(new[11..106].iter().all(|byte| *byte == 0));
 /// assert!(target[318..].iter().all(|byte| *byte == 0xFF));
 /// # Ok::<(), malquindo::Refusal>(())
 /// ```
-pub fn carry<'t>(old: &[u8], list: &[u8], target: &'t mut [u8]) -> Result<&'t mut [u8], Refusal> {
-    let result = carry_raw(old, list, target);
-    match Refusal::of_result(result) {
-        // The new image's length is at most the target's.
-        None => Ok(&mut target[..result as u32 as usize]),
-        Some(refusal) => Err(refusal),
-    }
+pub fn move_card<'t>(
+    old: &[u8],
+    rooms: &[(u16, u32)],
+    target: &'t mut [u8],
+) -> Result<&'t mut [u8], Refusal> {
+    let length = accepted(malquindo_sys::move_card(old, &list(rooms), target))?;
+    Ok(&mut target[..length as usize])
 }
 
-/// The list that [`carry`] takes, of kinds and the lengths of their bodies.
-pub fn list(rooms: &[(u16, u32)]) -> Vec<u8> {
+/// The list of rooms as the library reads it: for each its length, then its kind, little-endian.
+fn list(rooms: &[(u16, u32)]) -> Vec<u8> {
     let row = |(kind, length): &(u16, u32)| {
         let mut row = length.to_le_bytes().to_vec();
         row.extend(kind.to_le_bytes());
@@ -195,68 +220,13 @@ pub fn list(rooms: &[(u16, u32)]) -> Vec<u8> {
     rooms.iter().flat_map(row).collect()
 }
 
-/// Opens a session in a buffer of any length; the result is refusal * 2^32.
-pub fn open_raw(rights: &[u8], session: &mut [u8]) -> u64 {
-    // SAFETY: the pointers are of slices with these lengths, the one written is borrowed alone,
-    // and a slice's pointer is never null.
-    unsafe {
-        malquindo_sys::malquindo_open(
-            rights.as_ptr(),
-            rights.len(),
-            session.as_mut_ptr(),
-            session.len(),
-        )
-    }
-}
-
-/// One command on buffers of any length; the result is refusal * 2^32 + length * 2^16 + status.
-pub fn command_raw(
-    image: &mut [u8],
-    session: &mut [u8],
-    command: &[u8],
-    response: &mut [u8],
-) -> u64 {
-    // SAFETY: the pointers are of slices with these lengths, those written are borrowed alone,
-    // and a slice's pointer is never null.
-    unsafe {
-        malquindo_sys::malquindo_command(
-            image.as_mut_ptr(),
-            image.len(),
-            session.as_mut_ptr(),
-            session.len(),
-            command.as_ptr(),
-            command.len(),
-            response.as_mut_ptr(),
-            response.len(),
-        )
-    }
-}
-
-/// A move of buffers of any length; the result is refusal * 2^32 + length of the new image.
-pub fn carry_raw(old: &[u8], list: &[u8], target: &mut [u8]) -> u64 {
-    // SAFETY: the pointers are of slices with these lengths, the one written is borrowed alone,
-    // and a slice's pointer is never null.
-    unsafe {
-        malquindo_sys::malquindo_move(
-            old.as_ptr(),
-            old.len(),
-            list.as_ptr(),
-            list.len(),
-            target.as_mut_ptr(),
-            target.len(),
-        )
-    }
-}
-
 #[cfg(test)]
 mod tests {
     use super::*;
 
     #[test]
     fn the_session_length_is_the_librarys() {
-        // SAFETY: the function takes nothing.
-        let length = unsafe { malquindo_sys::malquindo_session_len() };
-        assert_eq!(length, SESSION_LEN);
+        assert_eq!(malquindo_sys::session_len(), SESSION_LEN);
     }
 
     #[test]
@@ -268,11 +238,21 @@ mod tests {
         assert_eq!(short, Err(Refusal::ShortBuffer));
         let image = command(&mut [0], &mut session, &[], &mut response);
         assert_eq!(image, Err(Refusal::BadImage));
-        let mut none = Session::from_bytes([0xFF; SESSION_LEN]);
-        let refused = command(&mut [], &mut none, &[], &mut response);
+        let mut malformed = Session::from_bytes([0xFF; SESSION_LEN]);
+        let refused = command(&mut [], &mut malformed, &[], &mut response);
         assert_eq!(refused, Err(Refusal::BadSession));
-        assert_eq!(Refusal::BadSession.number(), 4);
-        assert_eq!(none.as_bytes(), &[0xFF; SESSION_LEN]);
+        assert_eq!(malformed.as_bytes(), &[0xFF; SESSION_LEN]);
+    }
+
+    #[test]
+    fn each_number_is_one_refusal() {
+        assert_eq!(accepted(0x0002_9000), Ok(0x0002_9000));
+        for number in 1..20 {
+            let refusal = accepted(u64::from(number) << 32).unwrap_err();
+            assert_eq!(refusal.number(), number);
+            let known = matches!(number, 1..=4 | 10..=13);
+            assert_eq!(refusal == Refusal::Unknown(number), !known);
+        }
     }
 
     #[test]
@@ -287,30 +267,29 @@ mod tests {
         rights[20] = 0xFE;
         let mut session = open(&rights).unwrap();
         let mut response = [0; RESPONSE_LEN];
-        let m1 = [0x00, 0xA4, 0x04, 0x0C, 7, 0xA0, 0, 0, 2, 0x47, 0x20, 1];
-        let answer = command(&mut image, &mut session, &m1, &mut response).unwrap();
+        let select = [0x00, 0xA4, 0x04, 0x0C, 7, 0xA0, 0, 0, 2, 0x47, 0x20, 1];
+        let answer = command(&mut image, &mut session, &select, &mut response).unwrap();
         assert_eq!((answer.status, answer.data), (0x6982, &[][..]));
     }
 
     #[test]
     fn refusals_of_a_move() {
         let old = [2, 0, 0, 0, 0x1A, 0x03, 0, 0];
-        let list = list(&[(0x031A, 7)]);
+        let rooms = [(0x031A, 7)];
         let mut target = [0xA5; 13];
-        let bad = carry(&old[1..], &list, &mut target);
+        let bad = move_card(&old[1..], &rooms, &mut target);
         assert_eq!(bad, Err(Refusal::BadImage));
-        let torn = carry(&old, &list[1..], &mut target);
-        assert_eq!(torn, Err(Refusal::BadList));
-        let missing = carry(&old, &[], &mut target);
+        let twice = move_card(&old, &[rooms[0], rooms[0]], &mut target);
+        assert_eq!(twice, Err(Refusal::BadList));
+        let missing = move_card(&old, &[], &mut target);
         assert_eq!(missing, Err(Refusal::MissingFile));
         let held = [5, 0, 0, 0, 0x1A, 0x03, 1, 0, 1, 0, 7];
-        let small = carry(&held, &super::list(&[(0x031A, 4)]), &mut target);
+        let small = move_card(&held, &[(0x031A, 4)], &mut target);
         assert_eq!(small, Err(Refusal::SmallRoom));
-        let short = carry(&old, &list, &mut target[1..]);
+        let short = move_card(&old, &rooms, &mut target[1..]);
         assert_eq!(short, Err(Refusal::ShortTarget));
-        assert_eq!(Refusal::ShortTarget.number(), 13);
         assert_eq!(target, [0xA5; 13]);
-        let new = carry(&held, &list, &mut target).unwrap();
+        let new = move_card(&held, &rooms, &mut target).unwrap();
         assert_eq!(new, [7, 0, 0, 0, 0x1A, 0x03, 1, 0, 1, 0, 7, 0, 0]);
     }
 }

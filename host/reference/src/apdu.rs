@@ -1,6 +1,6 @@
 //! The shape of a command.
 
-/// "data over 1,024 bytes"
+/// The longest data field of a command.
 const LONGEST_DATA: usize = 1_024;
 
 /// An Le field as it was sent.
@@ -21,7 +21,7 @@ impl Le {
         }
     }
 
-    /// "Le 00 or 0000", "Le 00 or all-zero extended"
+    /// Whether all bytes of the field are zero.
     pub fn is_zero(self) -> bool {
         matches!(self, Self::Short(0) | Self::Extended(0))
     }
@@ -39,8 +39,7 @@ pub struct Apdu<'a> {
 }
 
 impl<'a> Apdu<'a> {
-    /// "6700: under 4 bytes, or none of ISO's seven short and extended shapes; data over
-    /// 1,024 bytes." None is 6700.
+    /// Step 1. None is 6700.
     pub fn parse(bytes: &'a [u8]) -> Option<Self> {
         let (&[cla, ins, p1, p2], body) = bytes.split_first_chunk()?;
         let (data, le) = parse_body(body)?;
@@ -57,7 +56,7 @@ impl<'a> Apdu<'a> {
         })
     }
 
-    /// "file id" in P1-P2, or a 15-bit offset.
+    /// P1-P2 as one number: a file id, or an offset of 15 bits.
     pub fn p1_p2(&self) -> u16 {
         u16::from_be_bytes([self.p1, self.p2])
     }

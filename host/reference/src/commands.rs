@@ -1,5 +1,5 @@
-//! The eight commands. Each function below tests in the order of "Order of status words",
-//! steps 4 to 10; a status other than 9000 is an `Err`, given before anything is changed.
+//! The eight commands. Each function below makes the tests of steps 4 to 10 in their order. A
+//! status other than 9000 is an `Err`, given before anything is changed.
 
 use crate::apdu::{Apdu, Le};
 use crate::image::{Application, BiometricsFile, File, Layout, RecordFile, TransparentFile};
@@ -8,7 +8,7 @@ use crate::rights::Use;
 use crate::search;
 use crate::session::{Place, Session};
 
-/// "the status is 256·SW1 + SW2"
+/// 256 * SW1 + SW2.
 pub type Status = u16;
 
 pub const OK: Status = 0x9000;
@@ -26,9 +26,9 @@ const WRONG_OFFSET: Status = 0x6B00;
 const WRONG_INS: Status = 0x6D00;
 const WRONG_CLA: Status = 0x6E00;
 
-/// "Returns min(Ne, 2,048, size − offset) bytes."; "cut at 2,048 bytes"
+/// The most data that READ BINARY and READ RECORD answer.
 const LONGEST_REPLY: usize = 2_048;
-/// The largest "most records" of any file.
+/// The most records that any file has.
 const MOST_RECORDS: usize = 254;
 
 /// A command answered 9000: how many data bytes stand in the response, and the session after.
@@ -39,8 +39,7 @@ pub struct Done {
 
 type Outcome = Result<Done, Status>;
 
-/// Steps 1 to 3: "6700: under 4 bytes, or none of ISO's seven short and extended shapes; data
-/// over 1,024 bytes." "6E00: CLA not 00 or 80." "6D00: not a pair below."
+/// Steps 1 to 3: the shape, the class, the instruction; then the command itself.
 pub fn run(
     image: &mut [u8],
     layout: &Layout,
@@ -76,7 +75,7 @@ struct Card<'a> {
 }
 
 impl Card<'_> {
-    /// "**SELECT** 00 A4, Lc, no Le."
+    /// SELECT: an application, a file of the selected application, or the master file.
     fn select(&self, apdu: &Apdu) -> Result<Session, Status> {
         match apdu.p1_p2() {
             0x040C => self.select_application(data_without_le(apdu)?),
@@ -86,9 +85,7 @@ impl Card<'_> {
         }
     }
 
-    /// "040C: the AID (all 7 bytes; eMRTD's is 6A82; an application whose flag is off is
-    /// 6982)."; "another value 6A82"; "Selecting an application or 3F00 clears the current
-    /// place"
+    /// An application, by its AID. It must be on the card, and its flag must be set.
     fn select_application(&self, aid: &[u8]) -> Result<Session, Status> {
         let application = Application::of_aid(aid)
             .filter(|application| self.layout.has(*application))
@@ -97,23 +94,21 @@ impl Card<'_> {
         Ok(self.session.selecting(application))
     }
 
-    /// "020C: 2-byte file id in the selected application."; "selecting a file always drops the
-    /// record"
+    /// A file, by its id. The current record is dropped even where the file was current before.
     fn select_file(&self, id: u16) -> Result<Session, Status> {
         let file = self.file_by_id(id)?;
         self.require_right(&file, Use::Read)?;
         Ok(self.session.dropping_record(id))
     }
 
-    /// "000C: 3F00."; "another value 6A82"
+    /// The master file, by the one id that it has.
     fn select_master_file(&self, id: u16) -> Result<Session, Status> {
         require(id == 0x3F00, NO_SUCH_FILE)?;
         Ok(self.session.selecting(Application::MasterFile))
     }
 
-    /// "**READ BINARY** 00 B0, no Lc, Le. P1 b8 = 0: 15-bit offset, current file. b8 = 1: b7 b6
-    /// zero (else 6A86), short id in b5 to b1, offset P2. Size is w or the constant's length.
-    /// Offset ≥ size: 6B00. Returns min(Ne, 2,048, size − offset) bytes. Sets the file."
+    /// READ BINARY. b8 of P1 tells how the file is named: by a short id in P1, and P2 is the
+    /// offset; or it is the current file, and the offset has 15 bits.
     fn read_binary(&self, apdu: &Apdu, image: &[u8], reply: &mut Reply) -> Result<Session, Status> {
         let by_short_id = apdu.p1 & 0x80 != 0;
         require(!by_short_id || apdu.p1 & 0x60 == 0, WRONG_P1_P2)?;
@@ -135,9 +130,8 @@ impl Card<'_> {
         Ok(self.session.setting_file(file.id()))
     }
 
-    /// "**UPDATE BINARY** 00 D7, Lc, no Le. P1-P2 0000 current file, else file id. ... Offset >
-    /// w: 6A80; then offset + length > room: 6A84. Writes; w becomes max(w, offset + length).
-    /// Sets the file."
+    /// UPDATE BINARY of the current file (P1-P2 0000), or of the file whose id P1-P2 is. The
+    /// offset is at most w, so that no byte is left unwritten between.
     fn update_binary(&self, apdu: &Apdu, image: &mut [u8]) -> Result<Session, Status> {
         let update = Update::read(data_without_le(apdu)?).ok_or(WRONG_DATA)?;
         let file = match apdu.p1_p2() {
@@ -155,7 +149,7 @@ impl Card<'_> {
         Ok(self.session.setting_file(file.id()))
     }
 
-    /// "**ACTIVATE** 00 44 00 00, neither Lc nor Le. State becomes 1."
+    /// ACTIVATE of the current file.
     fn activate(&self, apdu: &Apdu, image: &mut [u8]) -> Result<Session, Status> {
         require(apdu.p1_p2() == 0x0000, WRONG_P1_P2)?;
         require(apdu.data.is_none() && apdu.le.is_none(), WRONG_LENGTH)?;
@@ -164,9 +158,8 @@ impl Card<'_> {
         Ok(*self.session)
     }
 
-    /// "**APPEND RECORD** 00 E2, Lc, no Le. P1 00; P2 short id in b8 to b4 (0 is current file),
-    /// low bits 000. Longer than longest: 6700; then count already the most records, or no fit:
-    /// 6A84. The new record becomes current."
+    /// APPEND RECORD. The length is tested before the count and the room. The new record is
+    /// current then.
     fn append_record(&self, apdu: &Apdu, image: &mut [u8]) -> Result<Session, Status> {
         require(apdu.p1 == 0 && apdu.p2 & 0x07 == 0, WRONG_P1_P2)?;
         let record = data_without_le(apdu)?;
@@ -183,8 +176,7 @@ impl Card<'_> {
         Ok(self.session.setting_record(file.id(), number as u8))
     }
 
-    /// "**READ RECORD** 00 B2, no Lc, Le exactly 00 00 00. P2 short id, low bits 100 (one) or
-    /// 101 (P1 to last). ... Returns the records joined, cut at 2,048 bytes. Sets the file."
+    /// READ RECORD of one record, or of all from one on, joined and cut.
     fn read_record(&self, apdu: &Apdu, image: &[u8], reply: &mut Reply) -> Result<Session, Status> {
         let only_one = match apdu.p2 & 0x07 {
             0b100 => true,
@@ -211,8 +203,8 @@ impl Card<'_> {
         Ok(self.session.setting_file(file.id()))
     }
 
-    /// "P1 00 is the current record; a short id other than the current file's has none. None,
-    /// FF, or above the count: 6A83." Gives a number from 1 to the count.
+    /// The number that P1 means, from 1 to the count. 00 is the current record, which only the
+    /// current file has. FF is above every count.
     fn record_of_p1(&self, p1: u8, file: &RecordFile) -> Result<usize, Status> {
         let number = match (p1, self.session.place) {
             (0x00, Place::Record(id, record)) if id == file.rule.id => record,
@@ -224,8 +216,8 @@ impl Card<'_> {
         Ok(number)
     }
 
-    /// "**SEARCH RECORD** 00 A2 00 F8, Lc, Le 00 or 0000. ... None: 6282, no data. ... A reply
-    /// over Ne: 6700. Sets the file and, as current, the first match."
+    /// SEARCH RECORD. The first match is current then. A reply longer than asked for is 6700, and
+    /// nothing of it is written.
     fn search_record(
         &self,
         apdu: &Apdu,
@@ -255,10 +247,8 @@ impl Card<'_> {
         Ok(self.session.setting_record(file.id(), first))
     }
 
-    /// "**FMM** 80 5E (001 Annex D; its Table 38 has 5F), Le 00 or all-zero extended. P1 00:
-    /// current file, no Lc; 01: `51` ... P2 above 07: 6A86; at step 10, b2 or b3 on a
-    /// transparent file: 6A86. P2 00: no data. Else `7F78`{`81` total, `82` remaining, `83`
-    /// existing} as asked ... Sets the file."
+    /// FILE AND MEMORY MANAGEMENT of the current file (P1 00), or of the file that the data names
+    /// (P1 01). The low three bits of P2 say which numbers are asked for.
     fn fmm(&self, apdu: &Apdu, reply: &mut Reply) -> Result<Session, Status> {
         require(apdu.p1 <= 0x01 && apdu.p2 <= 0x07, WRONG_P1_P2)?;
         let by_name = apdu.p1 == 0x01;
@@ -274,20 +264,20 @@ impl Card<'_> {
         Ok(self.session.setting_file(file.id()))
     }
 
-    /// "6986 no current file"
+    /// The current file; 6986 where there is none.
     fn current_file(&self) -> Result<File, Status> {
         let id = self.session.place.file().ok_or(NO_CURRENT_FILE)?;
         self.file_by_id(id)
     }
 
-    /// "6A82 no such file or application"
+    /// The file of an id in the selected application.
     fn file_by_id(&self, id: u16) -> Result<File, Status> {
         self.layout
             .file_by_id(self.session.application, id)
             .ok_or(NO_SUCH_FILE)
     }
 
-    /// "Short id 0 is the current file in P2 of APPEND and READ RECORD; elsewhere 6A82."
+    /// The file of a short id in the selected application. 0 names none.
     fn file_by_short_id(&self, short_id: u8) -> Result<File, Status> {
         self.layout
             .file_by_short_id(self.session.application, short_id)
@@ -302,7 +292,7 @@ impl Card<'_> {
         }
     }
 
-    /// "P2 short id in b8 to b4 (0 is current file)"
+    /// The file that P2 of APPEND and READ RECORD names: here short id 0 is the current file.
     fn file_of_p2(&self, p2: u8) -> Result<File, Status> {
         match p2 >> 3 {
             0 => self.current_file(),
@@ -310,13 +300,13 @@ impl Card<'_> {
         }
     }
 
-    /// "6982: right missing, or never."
+    /// Step 9.
     fn require_right(&self, file: &File, wanted: Use) -> Result<(), Status> {
         require(self.session.rights.allow(file, wanted), RIGHT_MISSING)
     }
 
-    /// Steps 8 and 9 of UPDATE BINARY and ACTIVATE: "Write and activate on an Activated file,
-    /// or on a master file's file: never."
+    /// Steps 8 and 9 of UPDATE BINARY and ACTIVATE. The files of the master file are never
+    /// written.
     fn writable_file<'a>(&self, file: &'a File) -> Result<&'a BiometricsFile, Status> {
         let transparent = transparent_file(file)?;
         self.require_right(file, Use::Write)?;
@@ -336,7 +326,7 @@ fn require(condition: bool, status: Status) -> Result<(), Status> {
     }
 }
 
-/// "Lc, no Le": the data field, else "6700: Lc or Le present, absent or valued otherwise".
+/// The data field of a command that must have one, and no Le.
 fn data_without_le<'a>(apdu: &Apdu<'a>) -> Result<&'a [u8], Status> {
     match (apdu.data, apdu.le) {
         (Some(data), None) => Ok(data),
@@ -344,14 +334,14 @@ fn data_without_le<'a>(apdu: &Apdu<'a>) -> Result<&'a [u8], Status> {
     }
 }
 
-/// "Another length for 02 or 00 is 6700"
+/// The id in a data field of SELECT.
 fn two_bytes(data: &[u8]) -> Result<u16, Status> {
     data.try_into()
         .map(u16::from_be_bytes)
         .map_err(|_| WRONG_LENGTH)
 }
 
-/// "6981: APPEND, READ or SEARCH RECORD on a transparent file"
+/// Step 8 of the record commands.
 fn record_file(file: &File) -> Result<&RecordFile, Status> {
     match file {
         File::Records(records) => Ok(records),
@@ -359,7 +349,7 @@ fn record_file(file: &File) -> Result<&RecordFile, Status> {
     }
 }
 
-/// "6981: ... READ BINARY, UPDATE BINARY or ACTIVATE on a record file."
+/// Step 8 of READ BINARY, UPDATE BINARY and ACTIVATE.
 fn transparent_file(file: &File) -> Result<&TransparentFile, Status> {
     match file {
         File::Records(_) => Err(WRONG_FILE_TYPE),
@@ -374,8 +364,7 @@ struct Matches {
 }
 
 impl Matches {
-    /// "A record matches when the string occurs anywhere inside its window."; "30 lists only
-    /// the first."
+    /// The records whose window has the string somewhere, or the first of them alone.
     fn find(search: &Search, file: &RecordFile, image: &[u8]) -> Self {
         let mut matches = Self {
             numbers: [0; MOST_RECORDS],
@@ -394,15 +383,14 @@ impl Matches {
         matches
     }
 
-    /// "`02 01 nn` for each": the numbers found.
+    /// The numbers found.
     fn numbers(&self) -> &[u8] {
         &self.numbers[..self.count]
     }
 }
 
-/// "at step 10, b2 or b3 on a transparent file: 6A86. P2 00: no data. Else `7F78`{`81` total,
-/// `82` remaining, `83` existing} as asked, each number in the fewest whole bytes, at least
-/// one."
+/// The numbers asked for: `81` total, `82` remaining, `83` existing. The last two are of records,
+/// so that a transparent file has none of them. Nothing asked for is an answer without data.
 fn put_fmm_reply(file: &File, p2: u8, reply: &mut Reply) -> Result<(), Status> {
     let (remaining, existing) = match file {
         File::Records(records) => (records.remaining(), records.count),
@@ -431,13 +419,13 @@ fn put_fmm_reply(file: &File, p2: u8, reply: &mut Reply) -> Result<(), Status> {
     Ok(())
 }
 
-/// "each number in the fewest whole bytes, at least one"
+/// How many bytes a number takes; 0 takes one.
 fn bytes_needed(number: usize) -> usize {
     let bits = usize::BITS - number.leading_zeros();
     (bits.div_ceil(8) as usize).max(1)
 }
 
-/// "DO lengths: 00 to 7F; 81 for 80 to FF; 82 for 0100 up": how many bytes the field takes.
+/// How many bytes the length field of a data object takes: the length alone, or behind 81 or 82.
 fn length_field_size(length: usize) -> usize {
     match length {
         0..=0x7F => 1,
@@ -447,14 +435,14 @@ fn length_field_size(length: usize) -> usize {
 }
 
 /// The data written so far from the start of the response. A command writes here only once
-/// nothing can fail any more, so "response bytes behind the answer stay".
+/// nothing can fail any more, so that bytes behind the answer stay as they came.
 struct Reply<'a> {
     buffer: &'a mut [u8],
     length: usize,
 }
 
 impl<'a> Reply<'a> {
-    /// "data then SW1 SW2 are written from the buffer's start": nothing written yet.
+    /// Nothing is written yet.
     fn new(buffer: &'a mut [u8]) -> Self {
         Self { buffer, length: 0 }
     }
@@ -466,7 +454,7 @@ impl<'a> Reply<'a> {
         self.length = end;
     }
 
-    /// "DO lengths: 00 to 7F; 81 for 80 to FF; 82 for 0100 up"
+    /// The length field of a data object.
     fn put_length(&mut self, length: usize) {
         let [.., high, low] = length.to_be_bytes();
         match length_field_size(length) {

@@ -4,17 +4,17 @@
 //! the image is copied. Every file handed out by a layout is good for the image it was read
 //! from, until that image is changed.
 
-/// "At most 262,144 bytes"
+/// The most bytes an image has.
 const LONGEST_IMAGE: usize = 262_144;
-/// "A section is a 4-byte little-endian body length L, a 2-byte little-endian kind"
+/// Bytes before a section's body: its length (4 bytes), its kind (2 bytes).
 pub const SECTION_HEADER: usize = 6;
-/// "0401 to 0440 | Biometrics 1 to 64"
+/// How many biometrics files there can be; their kinds are 0401 to 0440.
 const BIOMETRICS_FILES: usize = 64;
 const FIRST_BIOMETRICS_KIND: u16 = 0x0401;
 const FIRST_BIOMETRICS_ID: u16 = 0x0201;
-/// "state byte (0 Deactivated, 1 Activated), 4-byte little-endian written length w"
+/// Bytes before a biometrics file's room: the state, and how many bytes are written (4 bytes).
 const BIOMETRICS_HEADER: usize = 5;
-/// "room of L − 5 bytes, at most 32,768"
+/// The largest room of a biometrics file.
 const LARGEST_ROOM: usize = 32_768;
 /// A body of no content, of each length that an image has room for.
 static EMPTY_BODY: [u8; LONGEST_IMAGE] = [0; LONGEST_IMAGE];
@@ -24,18 +24,18 @@ const ATR_INFO_SHORT_ID: u8 = 0x01;
 const DIR_ID: u16 = 0x2F00;
 const DIR_SHORT_ID: u8 = 0x1E;
 
-/// "EF.ATR/INFO (2F01, short 01), `47 03 86 01 60 7F 66 08 02 02 04 00 02 02 08 02`"
+/// What EF.ATR/INFO holds on every card.
 const ATR_INFO: [u8; 16] = [
     0x47, 0x03, 0x86, 0x01, 0x60, 0x7F, 0x66, 0x08, 0x02, 0x02, 0x04, 0x00, 0x02, 0x02, 0x08, 0x02,
 ];
 
 const AID_LEN: usize = 7;
-/// "the AID A0 00 00 02 47 followed by 10 01, 20 01, 20 02, 20 03"
+/// The AIDs differ in their last two bytes.
 const EMRTD_AID: [u8; AID_LEN] = [0xA0, 0x00, 0x00, 0x02, 0x47, 0x10, 0x01];
 const TRAVEL_AID: [u8; AID_LEN] = [0xA0, 0x00, 0x00, 0x02, 0x47, 0x20, 0x01];
 const VISA_AID: [u8; AID_LEN] = [0xA0, 0x00, 0x00, 0x02, 0x47, 0x20, 0x02];
 const BIOMETRICS_AID: [u8; AID_LEN] = [0xA0, 0x00, 0x00, 0x02, 0x47, 0x20, 0x03];
-/// "`61 09 4F 07` and the AID"
+/// What stands before the AID in each entry of EF.DIR.
 const DIR_ENTRY_START: [u8; 4] = [0x61, 0x09, 0x4F, 0x07];
 const DIR_ENTRY_LEN: usize = DIR_ENTRY_START.len() + AID_LEN;
 const LONGEST_CONSTANT: usize = 4 * DIR_ENTRY_LEN;
@@ -50,7 +50,7 @@ pub enum Application {
 }
 
 impl Application {
-    /// "040C: the AID (all 7 bytes; eMRTD's is 6A82 ...)": the covered application of an AID.
+    /// The application of a whole AID. The eMRTD application is not covered, so its AID has none.
     pub fn of_aid(aid: &[u8]) -> Option<Self> {
         if aid == TRAVEL_AID {
             Some(Self::Travel)
@@ -76,7 +76,7 @@ pub struct RecordRule {
     pub certificates: bool,
 }
 
-/// The six lines of the table "kind | file | id | short id | longest record | most records".
+/// The table of record files, by ascending kind.
 static RECORD_RULES: [RecordRule; 6] = [
     RecordRule {
         kind: 0x0101,
@@ -134,8 +134,7 @@ static RECORD_RULES: [RecordRule; 6] = [
     },
 ];
 
-/// "A section is a 4-byte little-endian body length L, a 2-byte little-endian kind, then L
-/// bytes": what stands before the body.
+/// What stands before a section's body: the body's length, then the kind, both little-endian.
 #[derive(Clone, Copy, Debug)]
 pub struct Head {
     pub length: usize,
@@ -163,9 +162,9 @@ pub struct RecordFile {
 }
 
 impl RecordFile {
-    /// "Record body: 2-byte little-endian count (0 to most records), then each record as
-    /// 2-byte little-endian length (1 to longest) and its bytes; the rest is free and
-    /// ignored."
+    /// Reads a record body: how many records there are, then each record behind its length, all
+    /// numbers of two bytes, little-endian. No record is empty. What follows is free, whatever it
+    /// holds.
     fn read(rule: &'static RecordRule, body: &[u8], start: usize) -> Option<Self> {
         let count = little_u16(body)?;
         if count > rule.most {
@@ -198,7 +197,7 @@ impl RecordFile {
         }
     }
 
-    /// "An append of n bytes fits when used + 2 + n ≤ L."
+    /// Whether there is room for a record of n bytes and its length.
     pub fn fits(&self, n: usize) -> bool {
         self.used + 2 + n <= self.length
     }
@@ -213,12 +212,12 @@ impl RecordFile {
         number
     }
 
-    /// "Total: L − 2 − 2·count"
+    /// The body's bytes without count and lengths.
     fn total(&self) -> usize {
         self.length - 2 - 2 * self.count
     }
 
-    /// "Remaining: min(most − count, (L − used) div (2 + longest))."
+    /// How many of the longest records can still be appended, by count and by room.
     pub fn remaining(&self) -> usize {
         let by_count = self.rule.most - self.count;
         let by_room = (self.length - self.used) / (2 + self.rule.longest);
@@ -234,7 +233,7 @@ pub struct Records<'a> {
 impl<'a> Iterator for Records<'a> {
     type Item = &'a [u8];
 
-    /// "then each record as 2-byte little-endian length (1 to longest) and its bytes"
+    /// A record is behind its own length.
     fn next(&mut self) -> Option<&'a [u8]> {
         let length = little_u16(self.rest)?;
         let (record, rest) = self.rest.get(2..)?.split_at_checked(length)?;
@@ -255,8 +254,8 @@ pub struct BiometricsFile {
 }
 
 impl BiometricsFile {
-    /// "Biometrics body: state byte (0 Deactivated, 1 Activated), 4-byte little-endian
-    /// written length w, then room of L − 5 bytes, at most 32,768; w ≤ room."
+    /// Reads a biometrics body: the state (0 Deactivated, 1 Activated), how many bytes are written
+    /// (w, 4 bytes, little-endian), then the room that they are written in.
     fn read(index: usize, body: &[u8], start: usize) -> Option<Self> {
         let room = body.len().checked_sub(BIOMETRICS_HEADER)?;
         let activated = match body[0] {
@@ -285,13 +284,13 @@ impl BiometricsFile {
         FIRST_BIOMETRICS_KIND + self.index as u16
     }
 
-    /// "Size is w": the bytes written so far.
+    /// The bytes written so far.
     fn content<'a>(&self, image: &'a [u8]) -> &'a [u8] {
         let at = self.start + BIOMETRICS_HEADER;
         image.get(at..at + self.written).unwrap_or(&[])
     }
 
-    /// "Writes; w becomes max(w, offset + length)." The bytes must end within the room.
+    /// Writes bytes, which must end within the room. w never falls.
     pub fn write(&self, image: &mut [u8], offset: usize, bytes: &[u8]) {
         let end = offset + bytes.len();
         let room = self.start + BIOMETRICS_HEADER;
@@ -300,7 +299,7 @@ impl BiometricsFile {
         image[self.start + 1..room].copy_from_slice(&written.to_le_bytes());
     }
 
-    /// "State becomes 1."
+    /// Sets the state to Activated.
     pub fn activate(&self, image: &mut [u8]) {
         image[self.start] = 1;
     }
@@ -332,7 +331,7 @@ impl ConstantFile {
         self
     }
 
-    /// "Size is w or the constant's length": all of its bytes.
+    /// All of its bytes.
     fn content(&self) -> &[u8] {
         &self.bytes[..self.length]
     }
@@ -346,7 +345,7 @@ pub enum TransparentFile {
 }
 
 impl TransparentFile {
-    /// "Size is w or the constant's length": the bytes that may be read.
+    /// The bytes that may be read.
     pub fn content<'a>(&'a self, image: &'a [u8]) -> &'a [u8] {
         match self {
             Self::Constant(file) => file.content(),
@@ -372,7 +371,7 @@ impl File {
         }
     }
 
-    /// "Total: L − 2 − 2·count; room; or the constant's length."
+    /// How many bytes of content the file can have.
     pub fn total(&self) -> usize {
         match self {
             Self::Records(file) => file.total(),
@@ -395,9 +394,8 @@ pub struct Layout {
 }
 
 impl Layout {
-    /// "At most 262,144 bytes: sections up to the exact end, perhaps none. A section is a
-    /// 4-byte little-endian body length L, a 2-byte little-endian kind, then L bytes. Kinds
-    /// strictly increase." None where the image is not so.
+    /// Reads an image that is not too long and ends where its last section does. No section at
+    /// all is an image too. None where the image is not well formed.
     pub fn read(image: &[u8]) -> Option<Self> {
         if image.len() > LONGEST_IMAGE {
             return None;
@@ -431,8 +429,8 @@ impl Layout {
         }
     }
 
-    /// Checks the next section's body by the rules of its kind and notes the file. "Kinds
-    /// strictly increase."
+    /// Checks the next section's body by the rules of its kind and notes the file. Its kind must
+    /// be above those before it.
     fn add(&mut self, kind: u16, body: &[u8]) -> Option<()> {
         if kind <= self.last_kind {
             return None;
@@ -470,7 +468,8 @@ impl Layout {
         image.get(start..start + length).unwrap_or(&[])
     }
 
-    /// "Travel has all of 0101, 0102, 011A or none; visa both or neither; 04xx needs 031A."
+    /// Whether each application is whole or absent. A biometrics file needs the certificates of
+    /// its application.
     fn complete(&self) -> bool {
         let [entry, exit, travel_certificates, visas, visa_certificates, biometrics_certificates] =
             self.records.each_ref().map(Option::is_some);
@@ -480,7 +479,7 @@ impl Layout {
             && (biometrics_certificates || self.biometrics.iter().all(Option::is_none))
     }
 
-    /// "An application is present when its sections are." "The master file always has ..."
+    /// Whether the card has an application; every card has the master file.
     pub fn has(&self, application: Application) -> bool {
         application == Application::MasterFile || self.record_files(application).next().is_some()
     }
@@ -493,8 +492,7 @@ impl Layout {
             .filter(move |file| file.rule.application == application)
     }
 
-    /// "In every command file ids and short ids are those of the selected application (2F01
-    /// and 2F00 only while the master file is selected)."
+    /// The file of an id within the selected application.
     pub fn file_by_id(&self, application: Application, id: u16) -> Option<File> {
         match application {
             Application::MasterFile => match id {
@@ -530,14 +528,13 @@ impl Layout {
         }
     }
 
-    /// "The master file always has EF.ATR/INFO"
+    /// EF.ATR/INFO, which is the same on every card.
     fn atr_info(&self) -> File {
         let file = ConstantFile::new(ATR_INFO_ID).with(&ATR_INFO);
         File::Transparent(TransparentFile::Constant(file))
     }
 
-    /// "and EF.DIR (2F00, short 1E): for eMRTD, then travel, visa, biometrics if present,
-    /// `61 09 4F 07` and the AID"
+    /// EF.DIR: an entry for eMRTD, then one for each application that the card has.
     fn directory(&self) -> File {
         let mut file = ConstantFile::new(DIR_ID)
             .with(&DIR_ENTRY_START)

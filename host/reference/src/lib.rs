@@ -1,15 +1,16 @@
-//! A plain implementation of the passport-chip file machine, written from
-//! document 01 ("The intended build and its rules") alone, and of the move to a larger chip,
-//! from L14 of document 02 ("What customers want changed later").
+//! A plain implementation of the file machine for passport chips, to compare the proved one with.
+//!
+//! It was written from the source documents of the rules alone, not from the proved code or its
+//! definitions. `docs/RULES.md` states these rules.
 //!
 //! The parts, from the lowest up:
-//! - [`image`]: the card image, its rules, its files and the changes to them;
-//! - [`rights`]: the rights of a certificate chain;
-//! - [`session`]: rights, selected application and current place;
-//! - [`apdu`] and [`objects`]: readers of the command's shape and its data objects;
-//! - [`search`]: whether a string occurs in a window;
-//! - [`commands`]: the eight commands;
-//! - [`moving`]: a card carried to rooms of other sizes.
+//! - `image`: the card image, its rules, its files and the changes to them;
+//! - `rights`: the rights of a certificate chain;
+//! - `session`: rights, selected application and current place;
+//! - `apdu` and `objects`: readers of the command's shape and its data objects;
+//! - `search`: whether a string occurs in a window;
+//! - `commands`: the eight commands;
+//! - `moving`: the move of a card to rooms of other sizes.
 
 #![forbid(unsafe_code)]
 
@@ -31,10 +32,10 @@ use session::Session;
 /// (2 bytes, little-endian), record number; what a place does not use is zero.
 pub const SESSION_LEN: usize = 25;
 
-/// "response buffer shorter than 2,050 bytes"
+/// The shortest response buffer that a command takes.
 const SHORTEST_RESPONSE: usize = 2_050;
 
-/// "Calls that get no status word": the four numbers of the table, and those of L14.
+/// Why a call gets no status word. The last four are of a move.
 #[derive(Clone, Copy)]
 enum Refusal {
     Response = 1,
@@ -48,14 +49,14 @@ enum Refusal {
 }
 
 impl Refusal {
-    /// "Each returns length 0, status 0"
+    /// The result of a refused call: all but the number is 0.
     fn result(self) -> u64 {
         (self as u64) << 32
     }
 }
 
-/// "Opening gives a session with these rights, the master file selected, no current file or
-/// record." "Opening tests 3 only"; "for 3, the one that 60 zero bytes open".
+/// Opens a session. Rights that are not 60 bytes are refusal 3, and the session written is the
+/// one that 60 zero bytes open.
 ///
 /// A session buffer under [`SESSION_LEN`] bytes is refusal 4 (3 if the rights are wrong too)
 /// and stays untouched. The result is refusal * 2^32.
@@ -70,9 +71,8 @@ pub fn open(rights: &[u8], session: &mut [u8]) -> u64 {
     }
 }
 
-/// "Opening tests 3 only, a command 1, 2, 4"; "For a command taken, data then SW1 SW2 are
-/// written from the buffer's start, the length counts both, and the status is
-/// 256·SW1 + SW2."
+/// One command. Refusals are tested in the order 1, 2, 4. A command that is not refused writes
+/// its data and the status word to the start of the response.
 ///
 /// The result is refusal * 2^32 + length * 2^16 + status.
 pub fn command(image: &mut [u8], session: &mut [u8], command: &[u8], response: &mut [u8]) -> u64 {
@@ -94,14 +94,14 @@ pub fn command(image: &mut [u8], session: &mut [u8], command: &[u8], response: &
     }
 }
 
-/// Carries a card to rooms of other sizes: writes the old image's files into the target, each
-/// with the room that the list gives it. "A longer target keeps its tail"; on a refusal the
-/// target is untouched.
+/// Moves a card to rooms of other sizes: writes the old image's files into the target, each with
+/// the room that the list gives it. What is behind the new image stays as it came; on a refusal
+/// all of the target does.
 ///
 /// The list's rows are those of a section's head: a 4-byte little-endian body length, a 2-byte
 /// little-endian kind. The result is refusal * 2^32 + length of the new image.
-pub fn carry(old: &[u8], list: &[u8], target: &mut [u8]) -> u64 {
-    match moving::carry(old, list, target) {
+pub fn move_card(old: &[u8], list: &[u8], target: &mut [u8]) -> u64 {
+    match moving::move_card(old, list, target) {
         Ok(length) => length as u64,
         Err(refusal) => refusal.result(),
     }
@@ -124,8 +124,7 @@ fn write_session(session: &Session, buffer: &mut [u8]) -> bool {
     }
 }
 
-/// "data then SW1 SW2 are written from the buffer's start, the length counts both, and the
-/// status is 256·SW1 + SW2": puts the status behind `data` bytes already written.
+/// Puts the status word behind `data` bytes that are written already. The length counts both.
 fn answer(response: &mut [u8], data: usize, status: commands::Status) -> u64 {
     let length = data + 2;
     response[data..length].copy_from_slice(&status.to_be_bytes());

@@ -1,15 +1,11 @@
-//! A card carried to a larger chip: L14 of document 02.
-//!
-//! "From an old image and a list of kinds with new body lengths L (4-byte little-endian length,
-//! 2-byte kind), write a new image". Nothing is written before all is tested.
+//! The move of a card to rooms of other sizes: from an old image and a list of section heads to a
+//! new image. Nothing is written before all is tested.
 
 use crate::image::{Head, Layout, SECTION_HEADER};
 use crate::Refusal;
 
-/// "number 10 for a list that lays out no valid image, 11 for an old kind missing, 12 for a room
-/// too small for its content, 13 for a target buffer too short; in that order, ... and number 2
-/// for the old image before all." The length of the new image.
-pub fn carry(old: &[u8], list: &[u8], target: &mut [u8]) -> Result<usize, Refusal> {
+/// The length of the new image. The refusals are tested in the order 2, 10, 11, 12, 13.
+pub fn move_card(old: &[u8], list: &[u8], target: &mut [u8]) -> Result<usize, Refusal> {
     let before = Layout::read(old).ok_or(Refusal::Image)?;
     let after = new_layout(list).ok_or(Refusal::List)?;
     if before
@@ -26,7 +22,7 @@ pub fn carry(old: &[u8], list: &[u8], target: &mut [u8]) -> Result<usize, Refusa
     Ok(after.length)
 }
 
-/// "a list that lays out no valid image": the image of its sections with all bodies zero.
+/// The image that the list lays out: its sections, with all bodies zero.
 fn new_layout(list: &[u8]) -> Option<Layout> {
     let whole = list.len().is_multiple_of(SECTION_HEADER);
     Layout::of_empty(heads(list)).filter(|_| whole)
@@ -38,9 +34,9 @@ fn heads(list: &[u8]) -> impl Iterator<Item = Head> + '_ {
         .filter_map(|row| Head::read(row.first_chunk()?))
 }
 
-/// "every file of the old one, all records under their old numbers, biometrics with state and w.
-/// Free bytes become zero. A kind not in the old image is written empty, biometrics
-/// Deactivated." The rooms are large enough and make up the new image.
+/// Writes each section of the list: its head, what the old image holds of its kind, then zeros.
+/// All zeros are an empty file, and a biometrics file that is Deactivated. The rooms are large
+/// enough and make up the new image.
 fn write(before: &Layout, old: &[u8], list: &[u8], image: &mut [u8]) {
     let mut rest = image;
     for (row, head) in list.chunks(SECTION_HEADER).zip(heads(list)) {

@@ -1,7 +1,7 @@
 //! Data objects: reading them out of a data field, and what the three commands that send some
 //! say with them. Where a function here gives None, the command's answer is 6A80.
 
-/// "The nested objects are read to a depth of at most four"
+/// How deep objects may be nested.
 const DEEPEST: usize = 4;
 
 /// Data objects that stand side by side, and how deep objects may still be nested from here.
@@ -19,8 +19,7 @@ impl<'a> Objects<'a> {
         }
     }
 
-    /// The value of the next object, which must have this tag: "objects stand in the order
-    /// given".
+    /// The value of the next object, which must have this tag: the order is fixed.
     fn value(&mut self, tag: &[u8]) -> Option<&'a [u8]> {
         if self.depth == 0 {
             return None;
@@ -40,7 +39,7 @@ impl<'a> Objects<'a> {
         })
     }
 
-    /// "Offset and number: 1 or 2 bytes, big-endian."
+    /// The number in the next object, one or two bytes, big-endian.
     fn number(&mut self, tag: &[u8]) -> Option<usize> {
         match *self.value(tag)? {
             [low] => Some(usize::from(low)),
@@ -49,13 +48,13 @@ impl<'a> Objects<'a> {
         }
     }
 
-    /// "none extra"
+    /// No further object may stand here.
     fn end(self) -> Option<()> {
         self.rest.is_empty().then_some(())
     }
 }
 
-/// "DO lengths: 00 to 7F; 81 for 80 to FF; 82 for 0100 up; other forms are 6A80."
+/// A length field and what follows it. Each length has one form, the shortest.
 fn split_length(bytes: &[u8]) -> Option<(usize, &[u8])> {
     match *bytes {
         [length @ 0..=0x7F, ref rest @ ..] => Some((usize::from(length), rest)),
@@ -67,14 +66,14 @@ fn split_length(bytes: &[u8]) -> Option<(usize, &[u8])> {
     }
 }
 
-/// "Data `54` offset (1 or 2 bytes, big-endian), `53` bytes (may be empty)."
+/// What UPDATE BINARY is to write, and where.
 pub struct Update<'a> {
     pub offset: usize,
     pub bytes: &'a [u8],
 }
 
 impl<'a> Update<'a> {
-    /// "Data `54` offset (1 or 2 bytes, big-endian), `53` bytes (may be empty). DO C0 is 6A80"
+    /// `54` the offset, `53` the bytes, perhaps none.
     pub fn read(data: &'a [u8]) -> Option<Self> {
         let mut objects = Objects::of(data);
         let offset = objects.number(&[0x54])?;
@@ -91,13 +90,12 @@ pub enum FileName {
     Id(u16),
 }
 
-/// "`7F76`{`51` file, `A1`{`80 01` 00 or 30, `B0`{`02` offset, `02` number}},
-/// `A3`{`B1`{`81` string}}}"
+/// What SEARCH RECORD is to look for, and where.
 pub struct Search<'a> {
-    /// The value of `51`, "as sent".
+    /// The value of `51`, which the reply repeats.
     pub sent_file: &'a [u8],
     pub file: FileName,
-    /// "30 lists only the first."
+    /// Whether the first match is enough.
     pub only_first: bool,
     pub offset: usize,
     pub number: usize,
@@ -105,8 +103,8 @@ pub struct Search<'a> {
 }
 
 impl<'a> Search<'a> {
-    /// "Data `7F76`{`51` file, `A1`{`80 01` 00 or 30, `B0`{`02` offset, `02` number}},
-    /// `A3`{`B1`{`81` string}}}."
+    /// `7F76`: in it `51` the file; `A1` the mode (`80`) and the window (`B0`, two numbers); `A3` the
+    /// string (`81` in `B1`).
     pub fn read(data: &'a [u8]) -> Option<Self> {
         let mut objects = Objects::of(data);
         let mut template = objects.inside(&[0x7F, 0x76])?;
@@ -148,7 +146,7 @@ impl<'a> Search<'a> {
     }
 }
 
-/// "File: 1 byte, the plain short id (001 Annex E), or 2 bytes, the id."
+/// The file of a search. One byte is the short id itself, not shifted as it is in FMM.
 fn search_file(value: &[u8]) -> Option<FileName> {
     match *value {
         [short_id] => Some(FileName::ShortId(short_id)),
@@ -157,7 +155,7 @@ fn search_file(value: &[u8]) -> Option<FileName> {
     }
 }
 
-/// FMM's "`51` of 1 byte (short id in b8 to b4, low bits 000 else 6A80, Table 41) or 2".
+/// The file of FMM. One byte has the short id in its upper five bits, and zeros below.
 pub fn read_fmm_file(data: &[u8]) -> Option<FileName> {
     let mut objects = Objects::of(data);
     let value = objects.value(&[0x51])?;

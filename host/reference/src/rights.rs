@@ -2,31 +2,31 @@
 
 use crate::image::{Application, BiometricsFile, File, RecordRule, TransparentFile};
 
-/// Bytes of one certificate's rights: "flags ..., travel byte, visa byte, 17 biometrics bytes".
+/// Bytes of one certificate's rights: flags, travel, visa, 17 bytes of biometrics.
 pub const RIGHTS_LEN: usize = 20;
-/// "60 bytes: three certificates of 20 bytes"
+/// Bytes of the rights of a chain, which has three certificates.
 pub const CHAIN_LEN: usize = 3 * RIGHTS_LEN;
 
-/// "b1 travel, b2 visa, b3 biometrics extension present"
+/// A flag tells that the certificate has the extension of an application.
 const TRAVEL_FLAG: u8 = 0x01;
 const VISA_FLAG: u8 = 0x02;
 const BIOMETRICS_FLAG: u8 = 0x04;
 
-/// "Travel and visa: b1 read records, b2 append records, b3 read certificates, b4 append
-/// certificates."
+/// The bits of the travel byte, and of the visa byte.
 const READ_RECORDS: u8 = 0x01;
 const APPEND_RECORDS: u8 = 0x02;
 const READ_CERTIFICATES: u8 = 0x04;
 const APPEND_CERTIFICATES: u8 = 0x08;
 const RECORD_BITS: u8 = READ_RECORDS | APPEND_RECORDS | READ_CERTIFICATES | APPEND_CERTIFICATES;
 
-/// "Biometrics byte 1: b1 read certificates, b2 append."
+/// The bits of the first biometrics byte.
 const READ_BIOMETRICS_CERTIFICATES: u8 = 0x01;
 const APPEND_BIOMETRICS_CERTIFICATES: u8 = 0x02;
 const BIOMETRICS_CERTIFICATE_BITS: u8 =
     READ_BIOMETRICS_CERTIFICATES | APPEND_BIOMETRICS_CERTIFICATES;
 
-/// What a command wants to do with a file. "'Read' covers select, search and FMM."
+/// What a command wants to do with a file. Selecting it, searching it and asking for its numbers
+/// count as reading.
 #[derive(Clone, Copy, Debug, PartialEq, Eq)]
 pub enum Use {
     Read,
@@ -35,8 +35,7 @@ pub enum Use {
     Write,
 }
 
-/// "flags (b1 travel, b2 visa, b3 biometrics extension present; others ignored), travel byte,
-/// visa byte, 17 biometrics bytes"
+/// The rights of one certificate, or of a chain.
 #[derive(Clone, Copy, Debug, PartialEq, Eq)]
 pub struct Rights {
     flags: u8,
@@ -67,15 +66,15 @@ impl Rights {
         bytes
     }
 
-    /// "The effective rights are the bitwise and of the three, flags included, RFU and ignored
-    /// bits cleared, bytes of an application without its flag set to zero."
+    /// The rights that all three certificates give, in cleared form.
     pub fn effective(chain: &[u8; CHAIN_LEN]) -> Self {
         let joined =
             std::array::from_fn(|i| chain[i] & chain[RIGHTS_LEN + i] & chain[2 * RIGHTS_LEN + i]);
         Self::from_bytes(&joined).cleared()
     }
 
-    /// "RFU and ignored bits cleared, bytes of an application without its flag set to zero"
+    /// Without the bits that mean nothing, and without the bytes of an application whose flag is
+    /// not set.
     fn cleared(self) -> Self {
         let mut clear = Self {
             flags: 0,
@@ -97,12 +96,12 @@ impl Rights {
         clear
     }
 
-    /// "or rights not in cleared form"
+    /// Whether clearing changes nothing.
     pub fn is_cleared(&self) -> bool {
         *self == self.cleared()
     }
 
-    /// "an application whose flag is off is 6982"; the master file needs no flag.
+    /// Whether an application may be selected; the master file needs no flag.
     pub fn flag(&self, application: Application) -> bool {
         match application {
             Application::MasterFile => true,
@@ -112,8 +111,8 @@ impl Rights {
         }
     }
 
-    /// Whether these rights allow a use of a file. "Write and activate on an Activated file,
-    /// or on a master file's file: never. Reading the latter: always."
+    /// Whether these rights allow a use of a file. Everyone may read the files of the master file,
+    /// and nobody may write them.
     pub fn allow(&self, file: &File, wanted: Use) -> bool {
         match file {
             File::Records(file) => self.allow_records(file.rule, wanted),
@@ -124,8 +123,7 @@ impl Rights {
         }
     }
 
-    /// "Travel and visa: b1 read records, b2 append records, b3 read certificates, b4 append
-    /// certificates. Biometrics byte 1: b1 read certificates, b2 append."
+    /// Each record file has a bit for reading and one for appending.
     fn allow_records(&self, rule: &RecordRule, wanted: Use) -> bool {
         let (byte, read, append) = match (rule.application, rule.certificates) {
             (Application::MasterFile, _) => return false,
@@ -146,9 +144,9 @@ impl Rights {
         }
     }
 
-    /// "Biometrics n, with i = (n − 1) mod 4, in byte 2 + (n − 1) div 4: bit 8 − 2i serves
-    /// select, FMM, read, write and activate while Deactivated; bit 7 − 2i serves select, FMM
-    /// and read while Activated."
+    /// Four files share a byte, behind the first one; each has two bits, the first from the left.
+    /// The upper bit is for a file that is Deactivated, the lower for one that is Activated, which
+    /// nobody may write.
     fn allow_biometrics(&self, file: &BiometricsFile, wanted: Use) -> bool {
         let byte = self.biometrics[1 + file.index / 4];
         let shift = 2 * (file.index % 4);

@@ -1,7 +1,7 @@
 //! Whether a string occurs in the window of a record.
 
-/// "The window runs from offset for number bytes (0: to the record's end), cut at the record's
-/// end."
+/// The part of a record that is searched, no further than the record goes. Number 0 is all from
+/// the offset on.
 pub fn window(record: &[u8], offset: usize, number: usize) -> &[u8] {
     let rest = record.get(offset..).unwrap_or(&[]);
     match number {
@@ -10,7 +10,7 @@ pub fn window(record: &[u8], offset: usize, number: usize) -> &[u8] {
     }
 }
 
-/// "A record matches when the string occurs anywhere inside its window."
+/// Whether the string stands anywhere in the window, not only at its start.
 pub fn occurs(string: &[u8], window: &[u8]) -> bool {
     let Some((&first, tail)) = string.split_first() else {
         return true;

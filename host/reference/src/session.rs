@@ -1,11 +1,10 @@
-//! A session: "A session holds its rights, the application selected, the current place (none,
-//! a file, or a file and record) and no more."
+//! A session, and what commands make of it.
 
 use crate::image::{Application, File, Layout};
 use crate::rights::{Rights, RIGHTS_LEN};
 use crate::SESSION_LEN;
 
-/// "the current place (none, a file, or a file and record)"
+/// The current file, if there is one, by its id, and perhaps its current record.
 #[derive(Clone, Copy, Debug, PartialEq, Eq)]
 pub enum Place {
     None,
@@ -23,7 +22,7 @@ impl Place {
     }
 }
 
-/// "A session holds its rights, the application selected, the current place ... and no more."
+/// All that is kept between two commands, beside the image.
 #[derive(Clone, Copy, Debug, PartialEq, Eq)]
 pub struct Session {
     pub rights: Rights,
@@ -32,8 +31,7 @@ pub struct Session {
 }
 
 impl Session {
-    /// "Opening gives a session with these rights, the master file selected, no current file
-    /// or record."
+    /// The session that an opening makes.
     pub fn opened(rights: Rights) -> Self {
         Self {
             rights,
@@ -42,8 +40,8 @@ impl Session {
         }
     }
 
-    /// The session in 25 bytes, if they are one: application 0 to 3, place 0 to 2, and "what a
-    /// place does not use is zero".
+    /// The session in 25 bytes, if they are one: application 0 to 3, place 0 to 2, and zero in
+    /// what the place has no use for.
     pub fn from_bytes(bytes: &[u8; SESSION_LEN]) -> Option<Self> {
         let [rights @ .., application, place, id_low, id_high, record] = bytes;
         let application = match application {
@@ -87,9 +85,8 @@ impl Session {
         bytes
     }
 
-    /// The negation of "session does not fit: application absent, or its current file not one
-    /// of the selected application's in this image, or its record on a transparent file, 0 or
-    /// above the count, or rights not in cleared form".
+    /// Whether the card has the selected application, in it the current file, and in this the
+    /// current record; and whether the rights are in cleared form.
     pub fn fits(&self, layout: &Layout) -> bool {
         let file = |id| layout.file_by_id(self.application, id);
         let place_fits = match self.place {
@@ -103,7 +100,7 @@ impl Session {
         place_fits && layout.has(self.application) && self.rights.is_cleared()
     }
 
-    /// "Selecting an application or 3F00 clears the current place"
+    /// After SELECT of an application or the master file: nothing is current.
     pub fn selecting(self, application: Application) -> Self {
         Self {
             application,
@@ -112,7 +109,8 @@ impl Session {
         }
     }
 
-    /// "setting another file drops the current record, setting the same file keeps it"
+    /// After a command on a file: it is current. Its current record stays, another file's does
+    /// not.
     pub fn setting_file(self, id: u16) -> Self {
         if self.place.file() == Some(id) {
             self
@@ -121,7 +119,7 @@ impl Session {
         }
     }
 
-    /// "selecting a file always drops the record"
+    /// After SELECT of a file: it is current, and no record is.
     pub fn dropping_record(self, id: u16) -> Self {
         Self {
             place: Place::File(id),
@@ -129,7 +127,7 @@ impl Session {
         }
     }
 
-    /// "The new record becomes current."; "Sets the file and, as current, the first match."
+    /// After an append or a search: file and record are current.
     pub fn setting_record(self, id: u16, record: u8) -> Self {
         Self {
             place: Place::Record(id, record),

@@ -1,5 +1,5 @@
-//! Document 01's "A card to try", the refusals, the order of status words, and a smoke test
-//! over random and changed inputs.
+//! The card to try with its commands m1 to m10, the refusals, the order of status words, and a smoke
+//! test over random and changed inputs.
 
 use reference::{command, open, SESSION_LEN};
 

@@ -1,7 +1,6 @@
-//! A card carried to a larger chip: the refusals and their order, what is written, and commands
-//! on the card that was carried.
+//! The move of a card: the refusals and their order, what is written, and commands on the new card.
 
-use reference::{carry, command, open, SESSION_LEN};
+use reference::{command, move_card, open, SESSION_LEN};
 
 const FILL: u8 = 0xEE;
 const LONGEST_IMAGE: usize = 262_144;
@@ -79,10 +78,10 @@ fn rooms(contents: &[(u16, Vec<u8>)], more: usize) -> Vec<(u16, usize)> {
 
 /// The new image, from a target that has `behind` bytes more than it needs.
 #[track_caller]
-fn carried(old: &[u8], rooms: &[(u16, usize)], behind: usize) -> Vec<u8> {
+fn moved(old: &[u8], rooms: &[(u16, usize)], behind: usize) -> Vec<u8> {
     let length = rooms.iter().map(|(_, length)| 6 + length).sum::<usize>();
     let mut target = vec![FILL; length + behind];
-    let result = carry(old, &list(rooms), &mut target);
+    let result = move_card(old, &list(rooms), &mut target);
     assert_eq!(result, length as u64);
     assert!(target[length..].iter().all(|byte| *byte == FILL), "tail");
     target.truncate(length);
@@ -93,7 +92,7 @@ fn carried(old: &[u8], rooms: &[(u16, usize)], behind: usize) -> Vec<u8> {
 #[track_caller]
 fn refusal(old: &[u8], list: &[u8], target_len: usize) -> u64 {
     let mut target = vec![FILL; target_len];
-    let result = carry(old, list, &mut target);
+    let result = move_card(old, list, &mut target);
     if result >> 32 != 0 {
         assert_eq!(result as u32, 0, "length of a refusal");
         assert!(target.iter().all(|byte| *byte == FILL), "target");
@@ -218,7 +217,7 @@ fn refusal_10_torn_list() {
     assert_eq!(refusal(&[], &[&whole[..], &[0]].concat(), 99), 10);
 }
 
-/// "the image of these sections with all bodies zero is not well formed", taken at its word.
+/// A list is good where the image of its sections, with all bodies zero, is well formed.
 #[test]
 fn refusal_10_is_an_empty_image_not_well_formed() {
     let mut random = Random(14);
@@ -323,17 +322,17 @@ fn the_order_of_refusals() {
 fn the_same_sizes() {
     let rows = rooms(&contents(), 9);
     let zero = card(&contents(), 9, 0);
-    assert_eq!(carried(&zero, &rows, 0), zero);
+    assert_eq!(moved(&zero, &rows, 0), zero);
     // Free bytes become zero.
-    assert_eq!(carried(&card(&contents(), 9, 0xAA), &rows, 0), zero);
-    assert_eq!(carried(&[], &[], 0), []);
+    assert_eq!(moved(&card(&contents(), 9, 0xAA), &rows, 0), zero);
+    assert_eq!(moved(&[], &[], 0), []);
 }
 
 #[test]
 fn larger_and_smaller_rooms() {
     for (before, after) in [(0, 0), (0, 1), (3, 500), (500, 3), (9, 0)] {
         let old = card(&contents(), before, 0xAA);
-        let new = carried(&old, &rooms(&contents(), after), 0);
+        let new = moved(&old, &rooms(&contents(), after), 0);
         assert_eq!(new, card(&contents(), after, 0), "{before} to {after}");
     }
 }
@@ -342,19 +341,19 @@ fn larger_and_smaller_rooms() {
 fn a_longer_target_keeps_its_tail() {
     let old = card(&contents(), 3, 0xAA);
     for behind in [1, 2, 500] {
-        let new = carried(&old, &rooms(&contents(), 4), behind);
+        let new = moved(&old, &rooms(&contents(), 4), behind);
         assert_eq!(new, card(&contents(), 4, 0));
     }
-    assert_eq!(carried(&[], &[], 40), []);
+    assert_eq!(moved(&[], &[], 40), []);
 }
 
 #[test]
 fn moved_twice() {
     let old = card(&contents(), 3, 0xAA);
-    let once = carried(&old, &rooms(&contents(), 40), 2);
-    let twice = carried(&once, &rooms(&contents(), 0), 5);
+    let once = moved(&old, &rooms(&contents(), 40), 2);
+    let twice = moved(&once, &rooms(&contents(), 0), 5);
     assert_eq!(twice, card(&contents(), 0, 0));
-    assert_eq!(twice, carried(&old, &rooms(&contents(), 0), 0));
+    assert_eq!(twice, moved(&old, &rooms(&contents(), 0), 0));
 }
 
 #[test]
@@ -363,7 +362,7 @@ fn kinds_that_are_new() {
     wanted.insert(3, (0x0203, records(&[])));
     wanted.insert(4, (0x021A, records(&[])));
     wanted.insert(7, (0x0402, biometrics(0, &[])));
-    let new = carried(&card(&contents(), 3, 0xAA), &rooms(&wanted, 30), 0);
+    let new = moved(&card(&contents(), 3, 0xAA), &rooms(&wanted, 30), 0);
     assert_eq!(new, card(&wanted, 30, 0));
     // Onto a chip with nothing on it.
     let empty = [
@@ -371,7 +370,7 @@ fn kinds_that_are_new() {
         (0x0401, biometrics(0, &[])),
         (0x0402, biometrics(0, &[])),
     ];
-    assert_eq!(carried(&[], &rooms(&empty, 8), 1), card(&empty, 8, 0));
+    assert_eq!(moved(&[], &rooms(&empty, 8), 1), card(&empty, 8, 0));
 }
 
 #[test]
@@ -383,7 +382,7 @@ fn the_longest_card() {
     full.push((0x0440, biometrics(0, &vec![8; left])));
     let old = card(&full, 0, 0);
     assert_eq!(old.len(), LONGEST_IMAGE);
-    assert_eq!(carried(&old, &rooms(&full, 0), 3), old);
+    assert_eq!(moved(&old, &rooms(&full, 0), 3), old);
 }
 
 // ---------------------------------------------------------------- commands on the new card
@@ -391,7 +390,7 @@ fn the_longest_card() {
 #[test]
 fn a_grown_card_reads_as_before_and_takes_more() {
     let mut old = card(&contents(), 0, 0);
-    let mut new = carried(&old, &rooms(&contents(), 5), 0);
+    let mut new = moved(&old, &rooms(&contents(), 5), 0);
     let append: &[u8] = b"\x00\xE2\x00\x08\x03DEU";
     let asked = [TRAVEL, READ_ALL, SEARCH_FRA, append, READ_ALL];
     let matches: &[u8] = b"\x7F\x76\x06\x51\x01\x01\x02\x01\x02\x90\x00";
@@ -403,7 +402,7 @@ fn a_grown_card_reads_as_before_and_takes_more() {
     // And the card that took more moves on.
     let mut contents = contents();
     contents[0].1 = records(&[b"USA", b"FRA", b"DEU"]);
-    let again = carried(&new, &rooms(&contents, 12), 0);
+    let again = moved(&new, &rooms(&contents, 12), 0);
     assert_eq!(again, card(&contents, 12, 0));
 }
 
@@ -413,7 +412,7 @@ fn an_application_that_was_added_is_there() {
     let mut wanted = contents();
     wanted.insert(3, (0x0203, records(&[])));
     wanted.insert(4, (0x021A, records(&[])));
-    let mut new = carried(&old, &rooms(&wanted, 20), 0);
+    let mut new = moved(&old, &rooms(&wanted, 20), 0);
     let append: &[u8] = b"\x00\xE2\x00\x18\x04visa";
     let read: &[u8] = b"\x00\xB2\x01\x1D\x00\x00\x00";
     let none: &[u8] = &[0x6A, 0x83];

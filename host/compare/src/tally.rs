@@ -1,11 +1,11 @@
 //! How often each outcome occurred.
 
 use crate::command::NAMES;
-use crate::sequence::Step;
+use crate::step::Step;
 use std::collections::BTreeMap;
 use std::fmt;
 
-/// All status words of document 01.
+/// All status words that the rules have.
 pub const STATUSES: [u16; 14] = [
     0x6282, 0x6700, 0x6981, 0x6982, 0x6986, 0x6A80, 0x6A82, 0x6A83, 0x6A84, 0x6A86, 0x6B00, 0x6D00,
     0x6E00, 0x9000,

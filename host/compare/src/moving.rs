@@ -4,7 +4,7 @@
 use crate::card::Size;
 use crate::make::{self, BIOMETRICS_KIND, LARGEST_ROOM, LONGEST_IMAGE, RULES, SECTION_HEADER};
 use crate::random::Random;
-use crate::sequence::Step;
+use crate::step::Step;
 use crate::view::{self, Room};
 
 /// The shortest body of a biometrics file: state and written length.

@@ -30,7 +30,7 @@ enum Fill {
 pub fn image(random: &mut Random, size: Size) -> Vec<u8> {
     let present = if random.coin() { 7 } else { random.below(8) };
     let mut image = Vec::new();
-    for rule in RULES.iter() {
+    for rule in &RULES {
         if present & (1 << (rule.application - 1)) != 0 {
             image.extend(make::section(rule.kind, &record_body(random, size, rule)));
         }

@@ -1,9 +1,9 @@
 //! The comparison itself, and that it sees a difference where there is one.
 
-use difference::compare::{compare, compare_machines, Carry, Command, Machine, PROVED, REFERENCE};
-use difference::scene;
-use difference::sequence::Step;
-use difference::vectors::{self, Vectors, LONGEST};
+use compare::sample::{self, Sample, LONGEST};
+use compare::scene;
+use compare::sides::{compare, compare_machines, Command, Machine, MoveCard, PROVED, REFERENCE};
+use compare::step::Step;
 
 const SEED: u64 = 20_000;
 
@@ -76,10 +76,10 @@ fn a_difference_of_opening_is_seen() {
 
 /// The reference's move, each time with something changed that the rules leave alone, or with
 /// something left out.
-const WRONG_MOVES: [Carry; 6] = [
+const WRONG_MOVES: [MoveCard; 6] = [
     // A refusal that touches the target.
     |old, list, target| {
-        let result = reference::carry(old, list, target);
+        let result = reference::move_card(old, list, target);
         if result >> 32 != 0 {
             flip(target, 0);
         }
@@ -87,14 +87,14 @@ const WRONG_MOVES: [Carry; 6] = [
     },
     // A tail that does not stay.
     |old, list, target| {
-        let result = reference::carry(old, list, target);
+        let result = reference::move_card(old, list, target);
         flip(target, result as u32 as usize);
         result
     },
     // Free bytes that stay, as where the content alone is written.
     |old, list, target| {
         let before = target.to_vec();
-        let result = reference::carry(old, list, target);
+        let result = reference::move_card(old, list, target);
         match (target.last_mut(), before.last()) {
             (Some(last), Some(byte)) if result as usize == before.len() => *last = *byte,
             _ => {}
@@ -103,22 +103,25 @@ const WRONG_MOVES: [Carry; 6] = [
     },
     // 13 before the other refusals.
     |old, list, target| {
-        let result = reference::carry(old, list, target);
+        let result = reference::move_card(old, list, target);
         match (result >> 32, target.len()) {
             (1.., 0) => 13 << 32,
             _ => result,
         }
     },
     // A list that is cut to whole rows.
-    |old, list, target| reference::carry(old, &list[..list.len() / 6 * 6], target),
+    |old, list, target| reference::move_card(old, &list[..list.len() / 6 * 6], target),
     // A length of 16 bits.
-    |old, list, target| reference::carry(old, list, target) & !0x000F_0000,
+    |old, list, target| reference::move_card(old, list, target) & !0x000F_0000,
 ];
 
 #[test]
 fn a_difference_of_a_move_is_seen() {
-    for carry in WRONG_MOVES {
-        let wrong = Machine { carry, ..REFERENCE };
+    for move_card in WRONG_MOVES {
+        let wrong = Machine {
+            move_card,
+            ..REFERENCE
+        };
         let found = compare_machines(SEED, 20_000, &wrong, &REFERENCE).err();
         let found = found.expect("a difference");
         assert!(matches!(found.step, Step::Move { .. }));
@@ -129,7 +132,7 @@ fn a_difference_of_a_move_is_seen() {
 /// The scene's outcomes stand in the first lines of the sample, which begins with it.
 #[test]
 fn the_scene_ends_as_it_says() {
-    let sample = Vectors::generate(vectors::SEED);
+    let sample = Sample::generate(sample::SEED);
     let mut printed = sample.stdout.lines();
     for (step, outcome) in scene::lines() {
         let mut words = match step {
@@ -149,12 +152,12 @@ fn the_scene_ends_as_it_says() {
 
 #[test]
 fn the_sample_covers_what_it_should() {
-    let sample = Vectors::generate(vectors::SEED);
+    let sample = Sample::generate(sample::SEED);
     assert!(sample.stdin.len() <= LONGEST);
     assert!(sample.tally.commands >= 2_000);
     assert_eq!(sample.tally.missing(3, 20), Vec::<String>::new());
     assert!((60..=140).contains(&sample.tally.moves));
     let lines = sample.stdout.lines().count() as u64;
     assert_eq!(lines, sample.tally.calls());
-    assert_eq!(Vectors::generate(vectors::SEED).stdin, sample.stdin);
+    assert_eq!(Sample::generate(sample::SEED).stdin, sample.stdin);
 }

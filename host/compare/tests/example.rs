@@ -4,7 +4,7 @@ use std::path::Path;
 use std::process::Command;
 
 #[test]
-fn the_c_example_prints_what_document_01_says() {
+fn the_c_example_prints_its_answers() {
     let root = Path::new(env!("CARGO_MANIFEST_DIR")).join("../..");
     let program = Path::new(env!("CARGO_TARGET_TMPDIR")).join("example");
     let compiled = Command::new("gcc")

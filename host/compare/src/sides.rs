@@ -1,37 +1,37 @@
 //! Both implementations on the same calls, each with its own copies.
 
 use crate::card::Size;
+use crate::hex::hex;
 use crate::random::Random;
-use crate::sequence::{Sequence, State, Step};
+use crate::sequence::Sequence;
+use crate::step::{State, Step};
 use crate::tally::Tally;
-use crate::vectors::hex;
 use std::fmt;
 
 /// Opening: rights, session.
 pub type Open = fn(&[u8], &mut [u8]) -> u64;
 /// A command: image, session, command, response.
 pub type Command = fn(&mut [u8], &mut [u8], &[u8], &mut [u8]) -> u64;
-
 /// A move: old image, list, target.
-pub type Carry = fn(&[u8], &[u8], &mut [u8]) -> u64;
+pub type MoveCard = fn(&[u8], &[u8], &mut [u8]) -> u64;
 
 /// One implementation.
 pub struct Machine {
     pub open: Open,
     pub command: Command,
-    pub carry: Carry,
+    pub move_card: MoveCard,
 }
 
 pub const PROVED: Machine = Machine {
-    open: malquindo::open_raw,
-    command: malquindo::command_raw,
-    carry: malquindo::carry_raw,
+    open: malquindo_sys::open,
+    command: malquindo_sys::command,
+    move_card: malquindo_sys::move_card,
 };
 
 pub const REFERENCE: Machine = Machine {
     open: reference::open,
     command: reference::command,
-    carry: reference::carry,
+    move_card: reference::move_card,
 };
 
 /// All that a call may change.
@@ -166,7 +166,9 @@ impl Outcome {
             Step::Command { command, .. } => {
                 *result = (machine.command)(image, session, command, &mut self.response);
             }
-            Step::Move { list, .. } => *result = (machine.carry)(image, list, &mut self.target),
+            Step::Move { list, .. } => {
+                *result = (machine.move_card)(image, list, &mut self.target);
+            }
         }
     }
 }

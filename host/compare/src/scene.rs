@@ -1,8 +1,8 @@
-//! The calls that every run begins with: document 01's card, carried to larger rooms and on to
-//! others, with commands before and behind each move, and each refusal of a move.
+//! The calls that every run begins with: a card with the travel application, moved to larger
+//! rooms and on to others, with commands before and behind each move, and each refusal of a move.
 
 use crate::make::{self, Apdu, LONGEST_IMAGE, RIGHTS_LEN, SESSION_LEN, SHORTEST_RESPONSE};
-use crate::sequence::Step;
+use crate::step::Step;
 
 /// A step and what comes of it: a command's answer in hexadecimal; `refusal` and its number, or
 /// how many bytes the new image has; nothing for what is no call, and for the opening.
@@ -40,7 +40,7 @@ fn card(image: Vec<u8>) -> Line {
     (Step::Image(image), String::new())
 }
 
-fn run(command: Apdu, answer: &str) -> Line {
+fn run(command: &Apdu, answer: &str) -> Line {
     let step = Step::Command {
         response_len: SHORTEST_RESPONSE,
         command: command.bytes(),
@@ -65,12 +65,12 @@ fn refused(rows: &[(u16, usize)], number: u8) -> Line {
 
 fn select(application: u8) -> Line {
     let command = Apdu::new(0x00, 0xA4, 0x04, 0x0C).data(make::aid(application).to_vec());
-    run(command, "9000")
+    run(&command, "9000")
 }
 
 fn append(short_id: u8, record: &[u8], answer: &str) -> Line {
     let command = Apdu::new(0x00, 0xE2, 0x00, short_id << 3).data(record.to_vec());
-    run(command, answer)
+    run(&command, answer)
 }
 
 /// READ RECORD of this number and all behind it.
@@ -78,14 +78,14 @@ fn read_from(number: u8, short_id: u8, answer: &str) -> Line {
     let command = Apdu::new(0x00, 0xB2, number, short_id << 3 | 0b101)
         .le(0)
         .extended(true);
-    run(command, answer)
+    run(&command, answer)
 }
 
 /// SEARCH RECORD of EntryRecords for FRA, which is in the second record.
 fn search_fra() -> Line {
     let data = make::search(make::object, &[0x01], 0x00, [&[0], &[0]], b"FRA");
     let command = Apdu::new(0x00, 0xA2, 0x00, 0xF8).data(data).le(0);
-    run(command, "7f76065101010201029000")
+    run(&command, "7f76065101010201029000")
 }
 
 /// Rooms for the three files of travel.
@@ -198,7 +198,7 @@ fn applications_added() -> Vec<Line> {
     let update = Apdu::new(0x00, 0xD7, 0x02, 0x05).data(bytes);
     let absent = Apdu::new(0x00, 0xA4, 0x04, 0x0C).data(make::aid(2).to_vec());
     vec![
-        run(absent, "6a82"),
+        run(&absent, "6a82"),
         moved(&all(20, 21), 1),
         search_fra(),
         select(2),
@@ -207,8 +207,8 @@ fn applications_added() -> Vec<Line> {
         read_from(1, 3, "5f28034445559000"),
         select(3),
         append(0x1A, &FRA, "9000"),
-        run(update, "9000"),
-        run(Apdu::new(0x00, 0x44, 0x00, 0x00), "9000"),
+        run(&update, "9000"),
+        run(&Apdu::new(0x00, 0x44, 0x00, 0x00), "9000"),
     ]
 }
 
@@ -219,11 +219,11 @@ fn an_activated_file_moved() -> Vec<Line> {
     vec![
         refused(&all(20, 10), 12),
         moved(&all(20, 11), 0),
-        run(read.clone(), "5f44035553419000"),
-        run(Apdu::new(0x00, 0x44, 0x00, 0x00), "6982"),
+        run(&read, "5f44035553419000"),
+        run(&Apdu::new(0x00, 0x44, 0x00, 0x00), "6982"),
         moved(&all(20, 32_773), 0),
-        run(read, "5f44035553419000"),
-        run(total_of_current, "7f7804810280009000"),
+        run(&read, "5f44035553419000"),
+        run(&total_of_current, "7f7804810280009000"),
     ]
 }
 

@@ -1,10 +1,11 @@
-//! A sample of calls as data for a program of the proved repository: what it reads, and what it
-//! should print by the reference alone.
+//! A sample of calls as data for the program `crates/test_sample`: what it reads, and what it must
+//! print. The answers are the reference's alone.
 
 use crate::card::Size;
-use crate::sequence::{Sequence, State, Step};
+use crate::hex::hex;
+use crate::sequence::Sequence;
+use crate::step::{State, Step};
 use crate::tally::Tally;
-use std::fmt::Write;
 
 /// The seed of the sample that is kept as data.
 pub const SEED: u64 = 93_034;
@@ -14,28 +15,28 @@ pub const LONGEST: usize = 262_144;
 const FILL: u8 = 0xA5;
 
 #[derive(Default)]
-pub struct Vectors {
+pub struct Sample {
     pub stdin: Vec<u8>,
     pub stdout: String,
     pub tally: Tally,
 }
 
-impl Vectors {
+impl Sample {
     /// As many whole sequences of the seed as fit.
     pub fn generate(seed: u64) -> Self {
-        let mut vectors = Self::default();
+        let mut sample = Self::default();
         for number in 0.. {
             let (stdin, lines) = one_sequence(seed, number);
-            if vectors.stdin.len() + stdin.len() > LONGEST {
+            if sample.stdin.len() + stdin.len() > LONGEST {
                 break;
             }
-            vectors.stdin.extend(stdin);
+            sample.stdin.extend(stdin);
             for (line, step, result) in lines {
-                vectors.stdout.push_str(&line);
-                vectors.tally.step(&step, result);
+                sample.stdout.push_str(&line);
+                sample.tally.step(&step, result);
             }
         }
-        vectors
+        sample
     }
 }
 
@@ -66,7 +67,7 @@ fn one_sequence(seed: u64, number: u64) -> (Vec<u8>, Vec<Line>) {
                 response_len,
                 command,
             } => run(&mut state, *response_len, command),
-            Step::Move { target_len, list } => carry(&mut state, *target_len, list),
+            Step::Move { target_len, list } => move_card(&mut state, *target_len, list),
         };
         lines.push((line, step, state.result));
     }
@@ -89,9 +90,9 @@ fn run(state: &mut State, response_len: usize, command: &[u8]) -> String {
 }
 
 /// Moves the card and says what that did. The card that a move wrote is the card from then on.
-fn carry(state: &mut State, target_len: usize, list: &[u8]) -> String {
+fn move_card(state: &mut State, target_len: usize, list: &[u8]) -> String {
     let mut target = vec![FILL; target_len];
-    state.result = reference::carry(&state.image, list, &mut target);
+    state.result = reference::move_card(&state.image, list, &mut target);
     state.take_moved(&target);
     format!("{} {}\n", state.result, fnv(&target))
 }
@@ -136,16 +137,5 @@ fn encode(step: &Step, bytes: &mut Vec<u8>) {
 fn fnv(bytes: &[u8]) -> u32 {
     bytes.iter().fold(2_166_136_261, |hash, byte| {
         (hash ^ u32::from(*byte)).wrapping_mul(16_777_619)
-    })
-}
-
-/// Lowercase hex, `-` where there are no bytes.
-pub fn hex(bytes: &[u8]) -> String {
-    if bytes.is_empty() {
-        return "-".to_string();
-    }
-    bytes.iter().fold(String::new(), |mut text, byte| {
-        let _ = write!(text, "{byte:02x}");
-        text
     })
 }

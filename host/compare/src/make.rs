@@ -1,6 +1,6 @@
-//! The bytes of images and data objects, put together by document 01's rules.
+//! The bytes of images and data objects, put together by the rules.
 
-/// One line of document 01's table of record files.
+/// One line of the table of record files.
 pub struct Rule {
     pub kind: u16,
     /// 1 travel, 2 visa, 3 biometrics, as in a session.
@@ -86,7 +86,7 @@ pub fn biometrics(state: u8, written: usize, room: &[u8]) -> Vec<u8> {
     body
 }
 
-/// A data object with the length form that document 01 asks for.
+/// A data object with the length form that the rules ask for.
 pub fn object(tag: &[u8], value: &[u8]) -> Vec<u8> {
     let mut bytes = tag.to_vec();
     match value.len() {

@@ -1,12 +1,12 @@
-//! Compares the proved library with the reference: `difference --seed N --calls N`.
+//! Compares the proved library with the reference: `compare --seed N --calls N`.
 
-use difference::compare::compare;
+use compare::sides::compare;
 use std::process::ExitCode;
 use std::time::Instant;
 
 fn main() -> ExitCode {
     let Some((seed, calls)) = arguments() else {
-        eprintln!("usage: difference [--seed N] [--calls N]");
+        eprintln!("usage: compare [--seed N] [--calls N]");
         return ExitCode::from(2);
     };
     let start = Instant::now();

@@ -7,7 +7,7 @@ use crate::objects::Objects;
 use crate::random::Random;
 use crate::view::{Content, File, View};
 
-/// The commands, in the order of document 01.
+/// The commands, in the order of the rules.
 #[derive(Clone, Copy, Debug, PartialEq, Eq)]
 pub enum Name {
     Select,

@@ -1,28 +1,32 @@
 //! Compares the proved library with the reference, call by call.
 //!
-//! - [`random`]: the generator of numbers;
+//! Each module uses only those above it in this list:
+//! - [`random`]: the generator of numbers; [`hex`]: bytes as text;
 //! - [`make`]: the bytes of images, data objects and commands;
 //! - [`view`]: what an image and a session hold;
-//! - [`card`], [`rights`], [`command`], [`objects`], [`moving`]: made-up images, rights and
-//!   sessions, commands and their data objects, moves;
+//! - [`step`]: one step of a run, and what a side holds between two steps;
+//! - [`card`], [`rights`], [`objects`], [`command`], [`moving`]: made-up images, rights and
+//!   sessions, data objects, commands and moves;
 //! - [`scene`]: the calls that every run begins with;
 //! - [`sequence`]: the calls, in sequences on one card each;
 //! - [`tally`]: how often each outcome occurred;
-//! - [`compare`]: both implementations, side by side;
-//! - [`vectors`]: a sample of calls as data.
+//! - [`sides`]: both implementations, side by side;
+//! - [`sample`]: a sample of calls as data.
 
 #![forbid(unsafe_code)]
 
 pub mod card;
 pub mod command;
-pub mod compare;
+pub mod hex;
 pub mod make;
 pub mod moving;
 pub mod objects;
 pub mod random;
 pub mod rights;
+pub mod sample;
 pub mod scene;
 pub mod sequence;
+pub mod sides;
+pub mod step;
 pub mod tally;
-pub mod vectors;
 pub mod view;
