@@ -6,13 +6,11 @@ use mathlib.Core.Bool.{true}
 use mathlib.Core.List.{List, [], _∷_, _++_, append-assoc}
 use native.Mathlib.Omega.{arith}
 use native.Mathlib.Numerals.{add-one}
-use lib.ListN.{length, getD, take, replicate, length-append, length-replicate}
+use lib.ListN.{length, getD, take, length-append}
 use lib.Seq.{sets, length-sets, take-suc, take-all, length-take-le}
 use lib.Dec.{lit≤, leb}
 use borrow.Author.Tests.{le-leb, lt-leb}
-use Rattle.base.specs.Choice.{allOf}
 use Rattle.base.specs.Bytes.{put}
-use Rattle.base.proofs.Cases.{by-cases}
 use Rattle.base.proofs.Runs.{sets-append, put-accepted}
 use Rattle.objects_writer.specs.Writing.{tagBytes, lengthBytes, tlv}
 use Rattle.objects_writer.specs.Writer.{headBytes, putEnd}

@@ -18,7 +18,7 @@ use Rattle.store_files.specs.declared.Lookup.{Lookup}
 use Rattle.store_files.specs.declared.Lookup.the-variants.{Known, NoFile}
 use Rattle.store_files.proofs.Meant.{FileOk, LookupOk, Own, byId-wellFormed, byShort-wellFormed, byId-own, byShort-own}
 use Rattle.machine_session.specs.Order.{inOrder}
-use Rattle.machine_session.specs.Resolve.{meantBy, meantAt, fileMeant, mayRecord, activated, mayRead, mayInspect, asRecord, recordBy, resolveRecord, asTransparent, transparentBy, resolveTransparent, writable, asBiometrics, biometricsBy, resolveBiometrics, fileBy, resolveFile}
+use Rattle.machine_session.specs.Resolve.{meantBy, meantAt, fileMeant, mayRecord, activated, mayRead, mayInspect, recordBy, resolveRecord, transparentBy, resolveTransparent, writable, biometricsBy, resolveBiometrics, fileBy, resolveFile}
 use Rattle.machine_session.specs.declared.Place.{Place}
 use Rattle.machine_session.specs.declared.Place.the-variants.{Nowhere, OnFile, OnRecord}
 use Rattle.machine_session.specs.declared.Session.{Session}

@@ -1,7 +1,7 @@
 -- One command, from the machine's answer to the bytes that a caller gets. Read specs/Face.antt before. Exports `called-answered` for bytes
 -- that are a session, `called-refused` for bytes that are none.
 use Prim.Native.Nat.{ℕ}
-use mathlib.Core.Path.{_≡_, sym, ap, ap₂, _∙_}
+use mathlib.Core.Path.{_≡_, ap, ap₂, _∙_}
 use mathlib.Core.Bool.{true, false}
 use mathlib.Core.List.{List}
 use lib.ListN.{length}

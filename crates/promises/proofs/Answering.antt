@@ -14,8 +14,6 @@ use Rattle.store_image.specs.Image.{wellFormed}
 use Rattle.machine_session.specs.Session.{sessionFits}
 use Rattle.machine_session.specs.Verdict.{refusalNumber, verdictNumber, verdict}
 use Rattle.machine_session.specs.declared.Session.{Session}
-use Rattle.machine_session.specs.declared.Refusal.{Refusal}
-use Rattle.machine_session.specs.declared.Refusal.the-variants.{ShortBuffer, BadImage, BadRights, BadSession}
 use Rattle.machine_session.specs.declared.Verdict.{Verdict}
 use Rattle.machine_session.specs.declared.Verdict.the-variants.{Accepted, Refused}
 use Rattle.machine_dispatch.specs.Decide.{decide, dataOf}

@@ -17,7 +17,6 @@ use Rattle.store_image.specs.Image.{has, wellFormed, recordsOf}
 use Rattle.machine_rights.proofs.Laws.{effective-length}
 use Rattle.machine_session.specs.Session.{opened}
 use Rattle.machine_session.specs.Verdict.{refusalNumber, verdictNumber, verdict, openVerdict}
-use Rattle.machine_session.specs.declared.Refusal.{Refusal}
 use Rattle.machine_session.specs.declared.Refusal.the-variants.{ShortBuffer, BadImage, BadRights, BadSession}
 use Rattle.machine_session.specs.declared.Verdict.{Verdict}
 use Rattle.machine_session.specs.declared.Verdict.the-variants.{Accepted, Refused}
@@ -28,7 +27,7 @@ use Rattle.machine_apdu.specs.Shape.{shapeOf}
 use Rattle.machine_answer.specs.Outcome.{Outcome}
 use Rattle.machine.specs.Step.{step, opening}
 use Rattle.machine_session_bytes.specs.Layout.{placeBytes, sessionBytes, isSession, sessionIn}
-use Rattle.malquindo.specs.Face.{resultOf, openingVerdict, openResult, openSession, sessionAfter, Called, calledAs, calledBy, malformed, called, moveResult}
+use Rattle.malquindo.specs.Face.{resultOf, openingVerdict, openResult, openSession, sessionAfter, Called, malformed, called, moveResult}
 use Rattle.store_move.specs.Moving.{moveRefusalNumber, moveCard, moveCardInto, Numbered}
 use Rattle.store_move.specs.declared.Moved.{Moved}
 use Rattle.store_move.specs.declared.Moved.the-variants.{Image, Refused as MoveRefused}
@@ -36,7 +35,7 @@ use Rattle.store_move.proofs.Moves.{moveRefusalNumber-listed, moveRefusalNumber
 use Rattle.promises.specs.Calls.{Call, Open, Command, Move, imageAfterMove, afterCall, after, addedBy, added, additions, history}
 use Rattle.promises.specs.Promises.{Whole, Kept, Answered, Reads, Searching, Names, MovedCard}
 use Rattle.promises.specs.Linked.{refusalIn, lengthIn, statusIn, movedIn, verdictBy, seen, CCall, OpenC, CommandC, MoveC, goesOnC, nextC, afterC, addedC, additionsC, historyC, C-sees, MalformedC, C-malformed, KeptC, C-says-no, C-gets-word, C-holds, C-number-kept, C-reads-history, C-leaves-none-out, C-opens, MovedC, C-moves}
-use Rattle.promises.proofs.Keeping.{put-rest, step-kept, verdict-not-rights}
+use Rattle.promises.proofs.Keeping.{put-rest, step-kept}
 use Rattle.promises.proofs.Saying.{gets-word, step-status}
 use Rattle.promises.proofs.Growing.{refused-none, calls-held, number-kept}
 use Rattle.promises.proofs.Reading.{reads-history}

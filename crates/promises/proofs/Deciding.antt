@@ -25,10 +25,7 @@ use Rattle.machine_session.specs.Order.{inOrder}
 use Rattle.machine_session.specs.Resolve.{resolveRecord}
 use Rattle.machine_session.specs.declared.Access.the-variants.{Read}
 use Rattle.machine_session.specs.declared.ResolvedRecord.{ResolvedRecord}
-use Rattle.machine_session.specs.Verdict.{refusalNumber, verdictNumber, verdict}
 use Rattle.machine_session.specs.declared.Session.{Session}
-use Rattle.machine_session.specs.declared.Refusal.{Refusal}
-use Rattle.machine_session.specs.declared.Refusal.the-variants.{ShortBuffer, BadImage, BadRights, BadSession}
 use Rattle.machine_session.specs.declared.Verdict.{Verdict}
 use Rattle.machine_session.specs.declared.Verdict.the-variants.{Accepted, Refused}
 use Rattle.machine_session.proofs.Steps.{inOrder-each}

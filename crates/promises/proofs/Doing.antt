@@ -9,8 +9,8 @@ use lib.ListN.{getD, length, drop, length-take}
 use lib.Dec.{leb, eqb, ltb}
 use borrow.Author.Tests.{eqb-false, ne-eqb, eqb-true, leb-true, ltb-true}
 use Rattle.base.specs.Bytes.{part, splice, AllBytes}
-use Rattle.base.proofs.Cases.{ifElse-ind, false-true, allOf-facts}
-use Rattle.store_kinds.specs.Biometrics.{state, written, writtenBytes, activate}
+use Rattle.base.proofs.Cases.{ifElse-ind, allOf-facts}
+use Rattle.store_kinds.specs.Biometrics.{state, written, writtenBytes}
 use Rattle.store_kinds.specs.Rules.{biometricsKind}
 use Rattle.store_kinds.specs.declared.rules.Rule.{Rule}
 use Rattle.store_image.specs.Image.{wellFormed, body, recordsOf}
@@ -30,14 +30,13 @@ use Rattle.store_files.specs.Master.{aidOf}
 use Rattle.store_files.specs.declared.AidName.{AidName}
 use Rattle.store_files.specs.declared.AidName.the-variants.{Application, OtherAid}
 use Rattle.store_files.specs.declared.Transparent.{Transparent}
-use Rattle.store_files.specs.declared.Transparent.the-variants.{Biometrics}
 use Rattle.store_files.specs.declared.File.{File}
 use Rattle.store_files.specs.declared.File.the-variants.{TransparentFile}
 use Rattle.machine_binary.specs.Activate.{activateFile}
 use Rattle.machine_session.specs.Session.{placed, setFile}
 use Rattle.machine_session.specs.Resolve.{resolveRecord, resolveTransparent, resolveBiometrics, resolveFile}
 use Rattle.machine_session.specs.declared.Access.{Access}
-use Rattle.machine_session.specs.declared.Access.the-variants.{Read, Append}
+use Rattle.machine_session.specs.declared.Access.the-variants.{Append}
 use Rattle.machine_session.specs.declared.ResolvedRecord.{ResolvedRecord}
 use Rattle.machine_session.specs.declared.ResolvedRecord.the-variants.{RecordStop, RecordAt}
 use Rattle.machine_session.specs.declared.ResolvedTransparent.{ResolvedTransparent}
@@ -46,12 +45,8 @@ use Rattle.machine_session.specs.declared.ResolvedBiometrics.{ResolvedBiometric
 use Rattle.machine_session.specs.declared.ResolvedBiometrics.the-variants.{BiometricsStop, BiometricsAt}
 use Rattle.machine_session.specs.declared.ResolvedFile.{ResolvedFile}
 use Rattle.machine_session.specs.declared.ResolvedFile.the-variants.{FileStop, FileAt}
-use Rattle.machine_session.specs.Verdict.{refusalNumber, verdictNumber, verdict}
 use Rattle.machine_session.specs.declared.Session.{Session}
-use Rattle.machine_session.specs.declared.Refusal.{Refusal}
-use Rattle.machine_session.specs.declared.Refusal.the-variants.{ShortBuffer, BadImage, BadRights, BadSession}
-use Rattle.machine_session.specs.declared.Verdict.{Verdict}
-use Rattle.machine_session.specs.declared.Verdict.the-variants.{Accepted, Refused}
+use Rattle.machine_session.specs.declared.Verdict.the-variants.{Accepted}
 use Rattle.machine_session.specs.declared.Place.the-variants.{OnRecord}
 use Rattle.machine_session.specs.declared.Named.{Named}
 use Rattle.machine_session.specs.declared.Named.the-variants.{Current, Short, Id}
@@ -59,7 +54,7 @@ use Rattle.machine_session.proofs.Steps.{inOrder-each, RecordResolved, Transpar
 use Rattle.machine_apdu.specs.declared.Frame.{Frame}
 use Rattle.machine_action.specs.Tests.{lcOnly, p1p2, idIn, orCurrent, onRecord, onTransparent, onBiometrics, onFile}
 use Rattle.machine_action.specs.declared.Action.{Action}
-use Rattle.machine_action.specs.declared.Action.the-variants.{Status, SelectApplication, SelectFile, ReadBinary, UpdateBinary, Activate, AppendRecord, ReadRecord, SearchRecord, Report}
+use Rattle.machine_action.specs.declared.Action.the-variants.{Status, SelectFile, ReadBinary, UpdateBinary, Activate, AppendRecord}
 use Rattle.machine_select.specs.Select.{selectAid, selectMaster, selectFile, selectBy, oneOfThree, lengthFits, select}
 use Rattle.machine_select.specs.Fmm.{fmmOn, fmmNamed, fmmFile, fmmBy, fmm}
 use Rattle.machine_binary.specs.ReadBinary.{readNamed, readOffset, readBinaryOn, readBinary}

@@ -21,20 +21,16 @@ use Rattle.store_image.specs.Image.{has, present, body, wellFormed, recordsOf, 
 use Rattle.store_image.proofs.Laws.{biometrics-unruled, records-count, append-list}
 use Rattle.objects_templates.specs.declared.Search.{Search}
 use Rattle.machine_rights.proofs.Laws.{effective-cleared}
-use Rattle.store_files.specs.Files.{ruled, biometricsById, byId, transparentId, idOf}
-use Rattle.store_files.specs.declared.Transparent.{Transparent}
-use Rattle.store_files.specs.declared.Transparent.the-variants.{Info, Dir, Biometrics}
+use Rattle.store_files.specs.Files.{ruled, biometricsById, byId, idOf}
+use Rattle.store_files.specs.declared.Transparent.the-variants.{Biometrics}
 use Rattle.store_files.specs.declared.File.{File}
 use Rattle.store_files.specs.declared.File.the-variants.{RecordFile, TransparentFile}
 use Rattle.store_files.specs.declared.Lookup.{Lookup}
 use Rattle.store_files.specs.declared.Lookup.the-variants.{Known, NoFile}
-use Rattle.store_files.specs.Loops.{Stored}
 use Rattle.store_files.proofs.Meant.{LookupOk, byId-wellFormed}
 use Rattle.machine_session.specs.Session.{opened, placed, isCurrent, setFile, applicationFits, isKnown, isRecordOf, recordFits, placeFits, sessionFits}
-use Rattle.machine_session.specs.Verdict.{refusalNumber, verdictNumber, verdict}
+use Rattle.machine_session.specs.Verdict.{verdict}
 use Rattle.machine_session.specs.declared.Session.{Session}
-use Rattle.machine_session.specs.declared.Refusal.{Refusal}
-use Rattle.machine_session.specs.declared.Refusal.the-variants.{ShortBuffer, BadImage, BadRights, BadSession}
 use Rattle.machine_session.specs.declared.Verdict.{Verdict}
 use Rattle.machine_session.specs.declared.Verdict.the-variants.{Accepted, Refused}
 use Rattle.machine_session.specs.declared.Place.{Place}

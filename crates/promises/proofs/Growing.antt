@@ -20,10 +20,7 @@ use Rattle.objects_templates.specs.declared.Writes.{Writes}
 use Rattle.objects_templates.specs.declared.Search.{Search}
 use Rattle.machine_record.specs.SearchRecord.{searchStatus}
 use Rattle.machine_session.specs.Resolve.{resolveRecord}
-use Rattle.machine_session.specs.Verdict.{refusalNumber, verdictNumber, verdict}
 use Rattle.machine_session.specs.declared.Session.{Session}
-use Rattle.machine_session.specs.declared.Refusal.{Refusal}
-use Rattle.machine_session.specs.declared.Refusal.the-variants.{ShortBuffer, BadImage, BadRights, BadSession}
 use Rattle.machine_session.specs.declared.Verdict.{Verdict}
 use Rattle.machine_session.specs.declared.Verdict.the-variants.{Accepted, Refused}
 use Rattle.machine_session.specs.declared.Access.the-variants.{Append}

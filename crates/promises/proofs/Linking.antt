@@ -18,10 +18,8 @@ use Rattle.store_files.specs.declared.File.the-variants.{TransparentFile}
 use Rattle.store_files.specs.declared.Transparent.the-variants.{Biometrics}
 use Rattle.machine_record.specs.SearchRecord.{searchStatus}
 use Rattle.machine_session.specs.Session.{opened, isCurrent, setFile, sessionFits}
-use Rattle.machine_session.specs.Verdict.{refusalNumber, verdictNumber, verdict}
+use Rattle.machine_session.specs.Verdict.{verdictNumber}
 use Rattle.machine_session.specs.declared.Session.{Session}
-use Rattle.machine_session.specs.declared.Refusal.{Refusal}
-use Rattle.machine_session.specs.declared.Refusal.the-variants.{ShortBuffer, BadImage, BadRights, BadSession}
 use Rattle.machine_session.specs.declared.Verdict.{Verdict}
 use Rattle.machine_session.specs.declared.Verdict.the-variants.{Accepted, Refused}
 use Rattle.machine_dispatch.specs.Decide.{decide, dataOf}

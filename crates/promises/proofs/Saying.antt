@@ -17,7 +17,6 @@ use Rattle.objects_templates.specs.declared.Search.{Search}
 use Rattle.store_files.specs.Files.{fileBytes}
 use Rattle.machine_session.specs.Verdict.{refusalNumber, verdictNumber, verdict}
 use Rattle.machine_session.specs.declared.Session.{Session}
-use Rattle.machine_session.specs.declared.Refusal.{Refusal}
 use Rattle.machine_session.specs.declared.Refusal.the-variants.{ShortBuffer, BadImage, BadRights, BadSession}
 use Rattle.machine_session.specs.declared.Verdict.{Verdict}
 use Rattle.machine_session.specs.declared.Verdict.the-variants.{Accepted, Refused}

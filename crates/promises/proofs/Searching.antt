@@ -26,7 +26,7 @@ use Rattle.machine_session.specs.declared.Session.{Session}
 use Rattle.machine_session.specs.declared.Place.the-variants.{OnRecord}
 use Rattle.machine_session.specs.declared.Access.the-variants.{Read}
 use Rattle.machine_session.proofs.Steps.{RecordResolved, RecordOk, resolveRecord-wellFormed}
-use Rattle.machine_record.specs.SearchRecord.{fileIn, searchNamed, searchHits, searchReply, searchStatus}
+use Rattle.machine_record.specs.SearchRecord.{fileIn, searchNamed, searchHits, searchReply}
 use Rattle.machine_record.proofs.Searched.{searchStatus-none, searchStatus-over, searchStatus-found}
 use Rattle.machine_dispatch.specs.Decide.{dataOf}
 use Rattle.machine_action.specs.declared.Action.{Action}

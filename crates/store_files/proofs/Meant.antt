@@ -1,6 +1,6 @@
 -- What a look-up answers: a record file stands in the image with its rule, a biometrics file stands in it, and a file is the one that its
 -- own id means. Read specs/Files.antt before. Exports `LookupOk`, `byId-wellFormed`, `byShort-wellFormed`, `byId-own`, `byShort-own`.
-use Prim.Native.Nat.{ℕ, _+_, _-_, _≤_}
+use Prim.Native.Nat.{ℕ, _-_, _≤_}
 use mathlib.Core.Path.{_≡_, refl, sym, ap, _∙_}
 use mathlib.Core.Bool.{Bool, true, false}
 use mathlib.Core.List.{List, [], _∷_}
@@ -12,8 +12,7 @@ use Rattle.base.proofs.Cases.{ifElse-ind, and-left, and-right, allOf-facts, all
 use Rattle.store_kinds.specs.Rules.{biometrics, ruleOf, isBiometrics, biometricsKind}
 use Rattle.store_image.specs.Image.{has}
 use Rattle.store_kinds.specs.declared.rules.Key.{Key}
-use Rattle.store_kinds.specs.declared.rules.Key.the-variants.{Kind, Id, Short}
-use Rattle.store_kinds.specs.declared.rules.Rule.{Rule}
+use Rattle.store_kinds.specs.declared.rules.Key.the-variants.{Id, Short}
 use Rattle.store_kinds.specs.declared.rules.Ruled.{Ruled}
 use Rattle.store_kinds.specs.declared.rules.Ruled.the-variants.{Is, Nothing}
 use Rattle.store_image.proofs.Laws.{rule-regular, rule-key}

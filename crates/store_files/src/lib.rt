@@ -135,17 +135,25 @@ const INFO: [u8; 16] = *b"\x47\x03\x86\x01\x60\x7F\x66\x08\x02\x02\x04\x00\x02\x
 // What the AIDs of the four applications begin with.
 const AID: [u8; 5] = *b"\xA0\x00\x00\x02\x47";
 
-// Whether the data begins as an AID does.
+// Whether the data begins as an AID does. (Five tests in a row: a loop this short costs more than it compares.)
 fn agrees(data: &[u8]) -> bool
     ensures { λ r. ⌜ r ≡ agreesTo (now («data» .entry)) 5 ⌝ }
 {
     let aid = AID;
-    let mut i = 0;
-    while i < 5 {
-        if base::byte(data, i) != base::byte(&aid, i) {
-            return false;
-        }
-        i += 1;
+    if base::byte(data, 0) != base::byte(&aid, 0) {
+        return false;
+    }
+    if base::byte(data, 1) != base::byte(&aid, 1) {
+        return false;
+    }
+    if base::byte(data, 2) != base::byte(&aid, 2) {
+        return false;
+    }
+    if base::byte(data, 3) != base::byte(&aid, 3) {
+        return false;
+    }
+    if base::byte(data, 4) != base::byte(&aid, 4) {
+        return false;
     }
     true
 }

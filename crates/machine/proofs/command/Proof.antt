@@ -1,5 +1,4 @@
 -- `machine::command` meets its contract.
-use Prim.Native.Nat.{ℕ}
 use denote.Ref.{now}
 use lib.ListN.{length}
 use mathlib.Core.Path.{sym, ap, _∙_, subst}

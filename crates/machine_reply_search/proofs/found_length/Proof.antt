@@ -1,5 +1,4 @@
 -- `machine_reply_search::found_length` meets its contract: the length of the outer length decides.
-use native.Mathlib.Omega.{arith}
 use Rattle.machine_reply_search.proofs.Listing.{sizes-short, sizes-one, sizes-two}
 use borrow.Author.Needs.{needs}
 use Rattle.machine_reply_search.proofs.found_length.Statement.{statement}

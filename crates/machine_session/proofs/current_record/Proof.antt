@@ -1,5 +1,4 @@
 -- `machine_session::current_record` meets its contract.
-use mathlib.Core.Path.{sym, _∙_}
 use borrow.Author.Tests.{eq-eqb, ne-eqb}
 use Rattle.machine_session.specs.Session.{currentRecord}
 use borrow.Author.Needs.{needs}

@@ -1,9 +1,8 @@
 -- `machine_session::has_record` meets its contract.
-use mathlib.Core.Path.{sym, ap, _∙_}
+use mathlib.Core.Path.{sym}
 use mathlib.Core.Bool.{and-true}
 use borrow.Author.Tests.{le-leb, lt-leb}
 use Rattle.base.specs.Choice.{allOf}
-use Rattle.machine_session.specs.Session.{hasRecord}
 use borrow.Author.Needs.{needs}
 use Rattle.machine_session.proofs.has_record.Statement.{statement}
 use Rattle.machine_session.proofs.has_record.Tie as tie

@@ -1,6 +1,5 @@
 -- `machine_session::is_current` meets its contract.
 use mathlib.Core.Path.{sym, ap}
-use mathlib.Core.Bool.{Bool}
 use Rattle.machine_session.specs.declared.Place.{Place}
 use Rattle.machine_session.specs.Session.{isCurrent}
 use borrow.Author.Needs.{needs}

@@ -1,5 +1,4 @@
 -- `machine_session::judge` meets its contract.
-use mathlib.Core.Path.{sym, _∙_}
 use borrow.Author.Tests.{lt-ltb, le-ltb}
 use Rattle.base.proofs.Cases.{flag-refused, flag-accepted}
 use Rattle.machine_session.specs.Verdict.{verdict}

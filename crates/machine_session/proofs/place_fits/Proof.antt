@@ -1,6 +1,5 @@
 -- `machine_session::place_fits` meets its contract.
 use mathlib.Core.Path.{sym, ap, _∙_}
-use mathlib.Core.Bool.{Bool}
 use denote.Ref.{now}
 use Rattle.store_files.specs.declared.Lookup.{Lookup}
 use Rattle.machine_session.specs.Session.{isKnown, recordFits, placeFits}

@@ -1,5 +1,4 @@
 -- `machine_session::session_fits` meets its contract.
-use mathlib.Core.Path.{sym, _∙_}
 use mathlib.Core.Bool.{and-false, and-true}
 use Rattle.base.specs.Choice.{allOf}
 use Rattle.base.proofs.Cases.{flag-refused, flag-accepted}

@@ -1,5 +1,5 @@
 -- `malquindo::malquindo_command` meets its contract.
-use mathlib.Core.Path.{sym, ap, _∙_}
+use mathlib.Core.Path.{ap, _∙_}
 use Rattle.malquindo.proofs.Calling.{called-answered, called-refused}
 use Rattle.base.proofs.Cases.{flag-refused, flag-accepted}
 use Rattle.malquindo.specs.Face.{resultOf}

@@ -1,5 +1,4 @@
 -- `malquindo::opening_verdict` meets its contract.
-use mathlib.Core.Path.{sym, ap}
 use borrow.Author.Needs.{needs}
 use Rattle.malquindo.proofs.opening_verdict.Statement.{statement}
 use Rattle.malquindo.proofs.opening_verdict.Tie as tie

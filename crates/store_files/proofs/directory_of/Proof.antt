@@ -1,6 +1,6 @@
 -- `store_files::directory_of` meets its contract. Invariant: the bytes begin with the entries of eMRTD and of the first n applications, and
 -- `at` is where they end. One more entry is stored behind them (`dir-turn`). Measure: 3 - n.
-use Prim.Native.Nat.{_*_, _+_, _-_, _≤_}
+use Prim.Native.Nat.{_-_, _≤_}
 use denote.Ref.{now}
 use mathlib.Core.Path.{_≡_, refl, _∙_}
 use native.Mathlib.Omega.{arith}

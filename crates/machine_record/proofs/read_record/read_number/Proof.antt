@@ -1,5 +1,4 @@
 -- `machine_record::read_record::read_number` meets its contract.
-use mathlib.Core.Bool.{and-true, and-false}
 use borrow.Author.Tests.{lt-leb, le-leb}
 use Rattle.base.specs.Choice.{allOf}
 use Rattle.machine_session.specs.Order.{inOrder}

@@ -1,7 +1,6 @@
 -- `machine_session::resolve::activated` meets its contract.
 use mathlib.Core.Path.{ap, _∙_}
 use Prim.Native.Nat.{ℕ}
-use mathlib.Core.List.{List}
 use lib.Dec.{eqb}
 use Rattle.store_kinds.specs.Biometrics.{state}
 use Rattle.store_image.specs.Image.{body}

@@ -1,6 +1,5 @@
 -- `machine_session::resolve::as_record` meets its contract.
 use mathlib.Core.Path.{sym, _∙_}
-use Rattle.machine_session.specs.Resolve.{asRecord}
 use borrow.Author.Needs.{needs}
 use Rattle.machine_session.proofs.resolve.as_record.Statement.{statement}
 use Rattle.machine_session.proofs.resolve.as_record.Tie as tie

@@ -1,6 +1,5 @@
 -- `machine_session::resolve::as_transparent` meets its contract.
 use mathlib.Core.Path.{sym, _∙_}
-use Rattle.machine_session.specs.Resolve.{asTransparent}
 use borrow.Author.Needs.{needs}
 use Rattle.machine_session.proofs.resolve.as_transparent.Statement.{statement}
 use Rattle.machine_session.proofs.resolve.as_transparent.Tie as tie

@@ -1,7 +1,5 @@
 -- `machine_session::resolve::may_read` meets its contract.
 use mathlib.Core.Path.{sym, ap, _∙_}
-use Prim.Native.Nat.{ℕ}
-use mathlib.Core.Bool.{Bool}
 use denote.Ref.{now}
 use Rattle.machine_rights.specs.Rights.{mayBiometrics}
 use Rattle.machine_session.specs.Resolve.{mayRead}

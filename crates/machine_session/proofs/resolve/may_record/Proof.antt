@@ -1,6 +1,5 @@
 -- `machine_session::resolve::may_record` meets its contract.
 use mathlib.Core.Path.{ap, _∙_}
-use mathlib.Core.Bool.{Bool}
 use Rattle.machine_rights.specs.Rights.{mayRecords}
 use Rattle.machine_session.specs.Resolve.{isCertificates, mayRecord}
 use borrow.Author.Needs.{needs}
