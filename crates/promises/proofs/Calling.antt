@@ -34,7 +34,7 @@ use Rattle.store_move.specs.declared.Moved.the-variants.{Image, Refused as Move
 use Rattle.store_move.proofs.Moves.{moveRefusalNumber-listed, moveRefusalNumber-some, moveCard-numbered}
 use Rattle.promises.specs.Calls.{Call, Open, Command, Move, imageAfterMove, afterCall, after, addedBy, added, additions, history}
 use Rattle.promises.specs.Promises.{Whole, Kept, Answered, Reads, Searching, Names, MovedCard}
-use Rattle.promises.specs.Linked.{refusalIn, lengthIn, statusIn, movedIn, verdictBy, seen, CCall, OpenC, CommandC, MoveC, goesOnC, nextC, afterC, addedC, additionsC, historyC, C-sees, MalformedC, C-malformed, KeptC, C-says-no, C-gets-word, C-holds, C-number-kept, C-reads-history, C-leaves-none-out, C-opens, MovedC, C-moves}
+use Rattle.promises.specs.Linked.{refusalIn, lengthIn, statusIn, movedIn, verdictBy, seen, CCall, OpenC, CommandC, MoveC, imageAfterMoveC, afterCallC, afterC, addedC, additionsC, historyC, C-sees, MalformedC, C-malformed, KeptC, C-says-no, C-gets-word, C-holds, C-number-kept, C-reads-history, C-leaves-none-out, C-opens, MovedC, C-moves}
 use Rattle.promises.proofs.Keeping.{put-rest, step-kept}
 use Rattle.promises.proofs.Saying.{gets-word, step-status}
 use Rattle.promises.proofs.Growing.{refused-none, calls-held, number-kept}
@@ -279,22 +279,22 @@ unfolding meanings
 meanings-append [] ds = refl
 meanings-append (c ∷ cs) ds = ap (λ (l : List Call). meaning c ∷ l) (meanings-append cs ds)
 
-goes-same : (m : Moved) (t img : List ℕ) → Numbered m → goesOnC (moveResult m) t img ≡ imageAfterMove m t img
-unfolding goesOnC
-goes-same (Image n) t img h =
+imageAfterMove-same : (m : Moved) (t img : List ℕ) → Numbered m → imageAfterMoveC (moveResult m) t img ≡ imageAfterMove m t img
+unfolding imageAfterMoveC
+imageAfterMove-same (Image n) t img h =
     ap₂ (λ (b : Bool) (k : ℕ). ifElse b (take k t) img) (eq-eqb (refusalIn n) 0 (image-refusal n h)) (image-moved n h)
-goes-same (MoveRefused w) t img h =
+imageAfterMove-same (MoveRefused w) t img h =
     ap (λ (b : Bool). ifElse b (take (movedIn (moveRefusalNumber w * 4294967296)) t) img)
     (ne-eqb (refusalIn (moveRefusalNumber w * 4294967296)) 0 (λ e. omega (arith, e, refused-refusal (moveRefusalNumber w), moveRefusalNumber-some w)))
 
-next-same : (img : List ℕ) (c : CCall) → nextC img c ≡ afterCall img (meaning c)
-unfolding nextC afterCall meaning
-next-same img (OpenC rights ses) = refl
-next-same img (CommandC ses cmd buf) =
+afterCall-same : (img : List ℕ) (c : CCall) → afterCallC img c ≡ afterCall img (meaning c)
+unfolding afterCallC afterCall meaning
+afterCall-same img (OpenC rights ses) = refl
+afterCall-same img (CommandC ses cmd buf) =
     by-cases (isSession ses)
     (λ y. simp y (ap (λ (c : Called). c .image) (called-session img ses cmd buf y)))
     (λ n. simp n (c-malformed img ses cmd buf n .kept .0))
-next-same img (MoveC list t) = goes-same (moveCard img list (length t)) (moveCardInto img list t) img (moveCard-numbered img list (length t))
+afterCall-same img (MoveC list t) = imageAfterMove-same (moveCard img list (length t)) (moveCardInto img list t) img (moveCard-numbered img list (length t))
 
 added-same : (k : ℕ) (img : List ℕ) (c : CCall) → addedC k img c ≡ added k img (meaning c)
 unfolding addedC added meaning
@@ -308,14 +308,14 @@ added-same k img (MoveC list t) = refl
 after-same : (img : List ℕ) (cs : List CCall) → afterC img cs ≡ after img (meanings cs)
 unfolding afterC after meanings
 after-same img [] = refl
-after-same img (c ∷ cs) = ap (λ (l : List ℕ). afterC l cs) (next-same img c) ∙ after-same (afterCall img (meaning c)) cs
+after-same img (c ∷ cs) = ap (λ (l : List ℕ). afterC l cs) (afterCall-same img c) ∙ after-same (afterCall img (meaning c)) cs
 
 additions-same : (k : ℕ) (img : List ℕ) (cs : List CCall) → additionsC k img cs ≡ additions k img (meanings cs)
 unfolding additionsC additions meanings
 additions-same k img [] = refl
 additions-same k img (c ∷ cs) =
     ap₂ (λ (a b : List (List ℕ)). a ++ b) (added-same k img c)
-    (ap (λ (l : List ℕ). additionsC k l cs) (next-same img c) ∙ additions-same k (afterCall img (meaning c)) cs)
+    (ap (λ (l : List ℕ). additionsC k l cs) (afterCall-same img c) ∙ additions-same k (afterCall img (meaning c)) cs)
 
 history-same : (k : ℕ) (img : List ℕ) (cs : List CCall) → historyC k img cs ≡ history k img (meanings cs)
 unfolding historyC history

@@ -76,19 +76,19 @@ pub data CCall : Type 0 where
   MoveC : List ℕ → List ℕ → CCall
 
 -- after a move with the result r: the card goes on as the new image, the first bytes of the target t, unless the move was refused [X8]
-unfoldable pub goesOnC : ℕ → List ℕ → List ℕ → List ℕ
-goesOnC r t img = ifElse (eqb (refusalIn r) 0) (take (movedIn r) t) img
+unfoldable pub imageAfterMoveC : ℕ → List ℕ → List ℕ → List ℕ
+imageAfterMoveC r t img = ifElse (eqb (refusalIn r) 0) (take (movedIn r) t) img
 
 -- the image after a call [X8]
-unfoldable pub nextC : List ℕ → CCall → List ℕ
-nextC img (OpenC rights ses) = img
-nextC img (CommandC ses cmd buf) = called img ses cmd buf .image
-nextC img (MoveC list t) = goesOnC (moveResult (moveCard img list (length t))) (moveCardInto img list t) img
+unfoldable pub afterCallC : List ℕ → CCall → List ℕ
+afterCallC img (OpenC rights ses) = img
+afterCallC img (CommandC ses cmd buf) = called img ses cmd buf .image
+afterCallC img (MoveC list t) = imageAfterMoveC (moveResult (moveCard img list (length t))) (moveCardInto img list t) img
 
 -- and after calls, one after the other [X8]
 unfoldable pub afterC : List ℕ → List CCall → List ℕ
 afterC img [] = img
-afterC img (c ∷ cs) = afterC (nextC img c) cs
+afterC img (c ∷ cs) = afterC (afterCallC img c) cs
 
 -- what a call adds to the records of a file, as its result tells it [X8]
 unfoldable pub addedC : ℕ → List ℕ → CCall → List (List ℕ)
@@ -99,7 +99,7 @@ addedC k img (MoveC list t) = []
 -- [X8]
 unfoldable pub additionsC : ℕ → List ℕ → List CCall → List (List ℕ)
 additionsC k img [] = []
-additionsC k img (c ∷ cs) = addedC k img c ++ additionsC k (nextC img c) cs
+additionsC k img (c ∷ cs) = addedC k img c ++ additionsC k (afterCallC img c) cs
 
 -- [X8]
 unfoldable pub historyC : ℕ → List ℕ → List CCall → List (List ℕ)

@@ -74,7 +74,7 @@ pub enum Refusal {
     /// 10: the list of rooms lays out no valid image.
     BadList,
     /// 11: the list has no room for a file of the old card.
-    MissingFile,
+    MissingKind,
     /// 12: a room is too small for what the file holds.
     SmallRoom,
     /// 13: the target is shorter than the new image.
@@ -93,7 +93,7 @@ impl Refusal {
             Self::BadRights => 3,
             Self::BadSession => 4,
             Self::BadList => 10,
-            Self::MissingFile => 11,
+            Self::MissingKind => 11,
             Self::SmallRoom => 12,
             Self::ShortTarget => 13,
             Self::Unknown(number) => number,
@@ -109,7 +109,7 @@ impl Refusal {
             3 => Self::BadRights,
             4 => Self::BadSession,
             10 => Self::BadList,
-            11 => Self::MissingFile,
+            11 => Self::MissingKind,
             12 => Self::SmallRoom,
             13 => Self::ShortTarget,
             other => Self::Unknown(other),
@@ -125,7 +125,7 @@ impl fmt::Display for Refusal {
             Self::BadRights => "the rights are not 60 bytes",
             Self::BadSession => "the session does not fit the image, or is malformed",
             Self::BadList => "the list of rooms lays out no valid image",
-            Self::MissingFile => "a file of the old card has no room in the list",
+            Self::MissingKind => "a file of the old card has no room in the list",
             Self::SmallRoom => "a room is too small for its content",
             Self::ShortTarget => "the target is shorter than the new image",
             Self::Unknown(number) => return write!(f, "refusal {number}, which is not known here"),
@@ -282,7 +282,7 @@ mod tests {
         let twice = move_card(&old, &[rooms[0], rooms[0]], &mut target);
         assert_eq!(twice, Err(Refusal::BadList));
         let missing = move_card(&old, &[], &mut target);
-        assert_eq!(missing, Err(Refusal::MissingFile));
+        assert_eq!(missing, Err(Refusal::MissingKind));
         let held = [5, 0, 0, 0, 0x1A, 0x03, 1, 0, 1, 0, 7];
         let small = move_card(&held, &[(0x031A, 4)], &mut target);
         assert_eq!(small, Err(Refusal::SmallRoom));
