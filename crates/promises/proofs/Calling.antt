@@ -301,8 +301,8 @@ unfolding addedC added meaning
 added-same k img (OpenC rights ses) = refl
 added-same k img (CommandC ses cmd buf) =
     by-cases (isSession ses)
-    (λ y. simp y (ap (λ (w : ℕ). addedBy k img (sessionIn ses) cmd w (shapeOf cmd)) (status-seen img ses cmd buf y)))
-    (λ n. simp n (ap (λ (w : ℕ). addedBy k img (sessionIn ses) cmd w (shapeOf cmd)) (c-malformed img ses cmd buf n .nothing .1) ∙ refused-none img (sessionIn ses) cmd (shapeOf cmd) k))
+    (λ y. simp y (ap (λ (w : ℕ). addedBy k (sessionIn ses) cmd w (shapeOf cmd)) (status-seen img ses cmd buf y)))
+    (λ n. simp n (ap (λ (w : ℕ). addedBy k (sessionIn ses) cmd w (shapeOf cmd)) (c-malformed img ses cmd buf n .nothing .1) ∙ refused-none img (sessionIn ses) cmd (shapeOf cmd) k))
 added-same k img (MoveC list t) = refl
 
 after-same : (img : List ℕ) (cs : List CCall) → afterC img cs ≡ after img (meanings cs)
@@ -356,9 +356,8 @@ c-reads-history img cs ses cmd buf f o b e p w =
     let y = done-session (afterC img cs) ses cmd buf w in
     let t : step old s cmd buf .answer .status ≡ 0x9000 = ap (λ (l : List ℕ). step l s cmd buf .answer .status) (sym a) ∙ sym (status-seen (afterC img cs) ses cmd buf y) ∙ w in
     let h = reads-history img (meanings cs) s cmd buf f o e p t in
-    subst (λ (l : List ℕ). Reads l s f (λ k. historyC k img cs) (then-seen img cs ses cmd buf b y)) (sym a)
-    (subst (Reads old s f (λ k. historyC k img cs)) (seen-same img cs ses cmd buf b y)
-    (subst (λ (rs : ℕ → List (List ℕ)). Reads old s f rs (step old s cmd buf)) (λ i k. sym (history-same k img cs) i) h))
+    subst (Reads s f (λ k. historyC k img cs)) (seen-same img cs ses cmd buf b y)
+    (subst (λ (rs : ℕ → List (List ℕ)). Reads s f rs (step old s cmd buf)) (λ i k. sym (history-same k img cs) i) h)
 
 pub c-leaves-none-out : C-leaves-none-out
 c-leaves-none-out img cs ses cmd buf f x r o b y z =

@@ -14,6 +14,7 @@ use Rattle.base.specs.Bytes.{part, AllBytes}
 use Rattle.base.proofs.Cases.{by-cases, false-true, allOf-facts, allOf-accepted}
 use Rattle.base.proofs.Parts.{length-part}
 use Rattle.store_kinds.specs.declared.rules.Rule.{Rule}
+use Rattle.store_files.specs.declared.File.the-variants.{RecordFile}
 use Rattle.objects_writer.specs.Writing.{tlv, tagBytes, lengthBytes}
 use Rattle.objects_reader.proofs.Unique.{length-tlv}
 use Rattle.objects_templates.specs.Search.{SearchFields, searchData, readSearch, SearchSized, Searches}
@@ -25,6 +26,7 @@ use Rattle.machine_session.specs.Order.{inOrder}
 use Rattle.machine_session.specs.Resolve.{resolveRecord}
 use Rattle.machine_session.specs.declared.Access.the-variants.{Read}
 use Rattle.machine_session.specs.declared.ResolvedRecord.{ResolvedRecord}
+use Rattle.machine_session.specs.declared.ResolvedRecord.the-variants.{RecordAt}
 use Rattle.machine_session.specs.declared.Session.{Session}
 use Rattle.machine_session.specs.declared.Verdict.{Verdict}
 use Rattle.machine_session.specs.declared.Verdict.the-variants.{Accepted, Refused}
@@ -38,7 +40,7 @@ use Rattle.machine_apdu.proofs.Laws.{shape-facts}
 use Rattle.machine_action.specs.Tests.{allLe, onRecord}
 use Rattle.machine_action.specs.declared.Action.{Action}
 use Rattle.machine_action.specs.declared.Action.the-variants.{Status, SelectApplication, SelectFile, ReadBinary, UpdateBinary, Activate, AppendRecord, ReadRecord, SearchRecord, Report}
-use Rattle.machine_record.specs.SearchRecord.{searchNamed, searchOn, searchBy, searchRecord}
+use Rattle.machine_record.specs.SearchRecord.{fileIn, searchNamed, searchOn, searchBy, searchRecord}
 use Rattle.machine_dispatch.specs.Decide.{byIns, byClass, byShape, decide, dataBy, dataOf}
 use Rattle.machine_dispatch.proofs.Allowing.{From, FromShape, decide-from, bytes-part}
 use Rattle.machine_answer.specs.Outcome.{Outcome, says}
@@ -46,7 +48,8 @@ use Rattle.machine.specs.Effects.{done}
 use Rattle.machine.specs.Step.{verdictOn, stepBy, step}
 use Rattle.promises.specs.Calls.{isPair}
 use Rattle.promises.specs.Promises.{SearchCommand, Searching, Only-searches, Search-refused}
-use Rattle.promises.proofs.Answering.{step-accepted}
+use Rattle.promises.proofs.Answering.{step-accepted, accepted-facts, taken-accepted, accepted-taken}
+use Rattle.promises.proofs.Naming.{record-meant, record-permitted, search-meant, search-resolved}
 use Rattle.promises.proofs.Wording.{refusing-not, Worded, decide-word}
 
 -- ---- steps 1 to 3
@@ -101,6 +104,13 @@ some-data x z =
     let k = z .text-size in
     omega (arith, length-tlv 0x81 (x .text), length-tlv 0xB1 a, length-tlv 0xA3 b, length-append d (tlv 0xA3 b), length-tlv 0x7F76 (d ++ tlv 0xA3 b))
 
+-- steps 7 to 9 answer the file of a search
+pub searching-resolved : (img : List ℕ) (s : Session) (cmd buf : List ℕ) (f : Frame) (x : SearchFields) (r : Rule)
+    → Searching img s cmd buf f x r
+    → resolveRecord img s Read (searchNamed (x .file)) ≡ RecordAt r
+searching-resolved img s cmd buf f x r h =
+    search-resolved s r (h .permitted .listed) img (accepted-facts img s (length buf) (taken-accepted img s cmd buf (h .taken)) .1) Read (h .permitted .right) (x .file) (h .meant)
+
 pub search-decided-complete : (img : List ℕ) (s : Session) (cmd buf : List ℕ) (f : Frame) (x : SearchFields) (r : Rule)
     → Searching img s cmd buf f x r
     → (q : Search) × (decide img s cmd ≡ SearchRecord r q (f .ne)) × Searches (dataOf cmd) q x
@@ -123,7 +133,7 @@ search-decided-complete img s cmd buf f x r h =
           ∙ passed img s f d t
           ∙ ap (searchBy img s (f .ne) d) (ap readSearch (c .writes) ∙ k .1)
           ∙ ap (λ (v : List ℕ). onRecord (resolveRecord img s Read (searchNamed v)) (searchOn q (f .ne))) (w .file-placed .is)
-          ∙ ap (λ (y : ResolvedRecord). onRecord y (searchOn q (f .ne))) (h .file),
+          ∙ ap (λ (y : ResolvedRecord). onRecord y (searchOn q (f .ne))) (searching-resolved img s cmd buf f x r h),
       w,
     )
 
@@ -134,6 +144,11 @@ pub search-decided-sound : (img : List ℕ) (s : Session) (cmd buf : List ℕ) (
     → (f : Frame) × (x : SearchFields) × Searching img s cmd buf f x r × (ne ≡ f .ne) × Searches (dataOf cmd) q x
 search-decided-sound img s cmd buf r q ne b t e = go (shapeOf cmd) refl (subst (FromShape img s cmd (shapeOf cmd)) e (decide-from img s cmd))
   where
+    -- the reference of the fields is that of the data
+    here : (f : Frame) (x : SearchFields) → fileIn (part cmd (f .from) (f .lc)) q ≡ x .file → resolveRecord img s Read (searchNamed (fileIn (part cmd (f .from) (f .lc)) q)) ≡ RecordAt r
+        → resolveRecord img s Read (searchNamed (x .file)) ≡ RecordAt r
+    here f x i e = ap (λ (l : List ℕ). resolveRecord img s Read (searchNamed l)) (sym i) ∙ e
+
     go : (a : Apdu) → shapeOf cmd ≡ a → FromShape img s cmd a (SearchRecord r q ne)
         → (f : Frame) × (x : SearchFields) × Searching img s cmd buf f x r × (ne ≡ f .ne) × Searches (dataOf cmd) q x
     go Bad z h = let y : _≡_ {A = ℕ} 0 1 = cc in absurd (omega arith)
@@ -149,9 +164,10 @@ search-decided-sound img s cmd buf r q ne b t e = go (shapeOf cmd) refl (subst (
           f,
           x,
           record {
-            accepted = t;
+            taken = accepted-taken img s cmd buf t;
             command = record { shape = z; header = l; le = v .le; writes = w .written; sized = w .sized };
-            file = ap (λ (l : List ℕ). resolveRecord img s Read (searchNamed l)) (sym (k .1 .file-placed .is)) ∙ h .at;
+            meant = search-meant s (x .file) (RecordFile r) ∙ record-meant img s Read (searchNamed (x .file)) r (here f x (k .1 .file-placed .is) (h .at));
+            permitted = record-permitted img s Read (searchNamed (x .file)) r (here f x (k .1 .file-placed .is) (h .at));
           },
           h .most,
           w,
@@ -207,7 +223,7 @@ only-searches img s cmd buf f b e p w =
 
 pub search-refused : Search-refused
 search-refused img s cmd buf f b t e h n =
-    ap (λ (o : Outcome). o .answer .status) (step-accepted img s cmd buf t ∙ ap (λ (x : Action). done x img s (dataOf cmd) buf) decided)
+    ap (λ (o : Outcome). o .answer .status) (step-accepted img s cmd buf (taken-accepted img s cmd buf t) ∙ ap (λ (x : Action). done x img s (dataOf cmd) buf) decided)
     ∙ said
   where
     five : Bool

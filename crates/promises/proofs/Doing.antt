@@ -7,7 +7,7 @@ use mathlib.Core.List.{List·Memᴰ·head, List·Memᴰ·tail, List, [], _∷_}
 use native.Mathlib.Omega.{arith}
 use lib.ListN.{getD, length, drop, length-take}
 use lib.Dec.{leb, eqb, ltb}
-use borrow.Author.Tests.{eqb-false, ne-eqb, eqb-true, leb-true, ltb-true}
+use borrow.Author.Tests.{eqb-false, eq-eqb, ne-eqb, eqb-true, leb-true, ltb-true, lt-ltb, le-ltb}
 use Rattle.base.specs.Bytes.{part, splice, AllBytes}
 use Rattle.base.proofs.Cases.{ifElse-ind, allOf-facts}
 use Rattle.store_kinds.specs.Biometrics.{state, written, writtenBytes}
@@ -31,7 +31,7 @@ use Rattle.store_files.specs.declared.AidName.{AidName}
 use Rattle.store_files.specs.declared.AidName.the-variants.{Application, OtherAid}
 use Rattle.store_files.specs.declared.Transparent.{Transparent}
 use Rattle.store_files.specs.declared.File.{File}
-use Rattle.store_files.specs.declared.File.the-variants.{TransparentFile}
+use Rattle.store_files.specs.declared.File.the-variants.{RecordFile, TransparentFile}
 use Rattle.machine_binary.specs.Activate.{activateFile}
 use Rattle.machine_session.specs.Session.{placed, setFile}
 use Rattle.machine_session.specs.Resolve.{resolveRecord, resolveTransparent, resolveBiometrics, resolveFile}
@@ -57,7 +57,7 @@ use Rattle.machine_action.specs.declared.Action.{Action}
 use Rattle.machine_action.specs.declared.Action.the-variants.{Status, SelectFile, ReadBinary, UpdateBinary, Activate, AppendRecord}
 use Rattle.machine_select.specs.Select.{selectAid, selectMaster, selectFile, selectBy, oneOfThree, lengthFits, select}
 use Rattle.machine_select.specs.Fmm.{fmmOn, fmmNamed, fmmFile, fmmBy, fmm}
-use Rattle.machine_binary.specs.ReadBinary.{readNamed, readOffset, readBinaryOn, readBinary}
+use Rattle.machine_binary.specs.ReadBinary.{namesCurrent, readNamed, readOffset, readBinaryOn, readBinary}
 use Rattle.machine_binary.specs.UpdateBinary.{updateNamed, updateOn, updateBy, updateBinary}
 use Rattle.machine_record.specs.AppendRecord.{appendOn, appendRecord}
 use Rattle.machine_dispatch.specs.Decide.{byIns, byOwnIns, byClass, byShape, decide, dataOf}
@@ -71,6 +71,8 @@ use Rattle.promises.specs.Calls.{isPair}
 use Rattle.promises.specs.Done.{Only, Obeyed, Appended, Append-done, Updated, Update-done, Activated, Activate-done, Fetched, Read-done, Selected, Select-done, Referred, Reported, Fmm-done}
 use Rattle.promises.proofs.Answering.{data-said, step-accepted, status-accepted, accepted-facts, accepted-room}
 use Rattle.promises.proofs.Deciding.{data-is, data-length}
+use Rattle.promises.specs.Files.{Inspected, Writes-to}
+use Rattle.promises.proofs.Naming.{record-meant, record-permitted, p2-meant, biometrics-writes, transparent-inspected, file-inspected}
 use Rattle.promises.proofs.Growing.{accepts, write-accepted, write-changes}
 
 only-changed : (img new : List ℕ) (k : ℕ) → Changed img new k → Only k img new
@@ -165,7 +167,8 @@ append-done img s cmd buf f b = came img s cmd buf f b R (appendRecord img s f (
         let x = accepts img s cmd buf o (dataOf cmd) r a in
         record {
           rule = r;
-          file = e;
+          meant = p2-meant s (f .header .p2 / 8) (RecordFile r) (record-meant img s Append (orCurrent (f .header .p2 / 8)) r e);
+          permitted = record-permitted img s Append (orCurrent (f .header .p2 / 8)) r e;
           records = append-list img (r .kind) r (dataOf cmd) o x;
           only = only-changed img _ (r .kind) (append-changes img (r .kind) r (dataOf cmd) o x);
           current = ap (λ (n : ℕ). placed s (OnRecord (r .id) (n + 1))) (sym (records-count (body img (r .kind))));
@@ -191,6 +194,11 @@ append-done img s cmd buf f b = came img s cmd buf f b R (appendRecord img s f (
         (λ p. on-record img s (dataOf cmd) buf R Append (orCurrent (f .header .p2 / 8)) (appendOn img (length (dataOf cmd))) (λ r e o. on r e o (p .1 .0)))
 
 -- ---- UPDATE BINARY
+
+-- P1-P2 is the id, or where it is 0000 the file is the current one
+update-named : (i : ℕ) → (i ≡ 0 → updateNamed i ≡ Current) × ((i ≡ 0 → ⊥) → updateNamed i ≡ Id i)
+unfolding updateNamed
+update-named i = (λ h. simp (eq-eqb i 0 h), λ h. simp (ne-eqb i 0 h))
 
 pub update-done : Update-done
 update-done img s cmd buf f y b = came img s cmd buf f b R (updateBinary img s f (dataOf cmd)) led tests
@@ -223,11 +231,13 @@ update-done img s cmd buf f y b = came img s cmd buf f b R (updateBinary img s f
         let dat : List ℕ = part (dataOf cmd) (w .bytes .at) (w .bytes .len) in
         let t = write-accepted img s cmd buf o n w (dataOf cmd) a in
         let new = update-body img k o (g .kind) (g .stands) (w .offset) dat in
+        let to = biometrics-writes img s (updateNamed (p1p2 f)) n e (a .file) in
         record {
           number = n;
           offset = offset;
           bytes = bytes;
-          file = e;
+          of-current = λ h. subst (λ (x : Named). Writes-to img s x n) (update-named (p1p2 f) .0 h) to;
+          of-id = λ h. subst (λ (x : Named). Writes-to img s x n) (update-named (p1p2 f) .1 h) to;
           writes = u .written;
           sized = u .sized;
           stands = ap writtenBytes new ∙ update-content (body img k) (w .offset) dat t ∙ ap₂ (splice (writtenBytes (body img k))) (u .offset-is) (u .bytes-placed .is);
@@ -280,7 +290,7 @@ activate-done img s cmd buf f b = came img s cmd buf f b R (activateFile img s f
         let h = biometrics-file img k o (g .kind) (g .stands) in
         record {
           number = n;
-          file = e;
+          of-current = biometrics-writes img s Current n e r;
           active = ap state new ∙ activate-state (body img k) h;
           written-kept = ap written new ∙ activate-written (body img k) h;
           content-kept = ap writtenBytes new ∙ activate-content (body img k) h;
@@ -296,6 +306,16 @@ activate-done img s cmd buf f b = came img s cmd buf f b R (activateFile img s f
 
 -- ---- READ BINARY
 
+-- P1 below 80 leaves the current file, and P1-P2 is the offset
+read-named : (f : Frame)
+    → (f .header .p1 < 0x80 → (readNamed f ≡ Current) × (readOffset f ≡ p1p2 f))
+    × (0x80 ≤ f .header .p1 → (readNamed f ≡ Short (f .header .p1 % 0x20)) × (readOffset f ≡ f .header .p2))
+unfolding readNamed readOffset namesCurrent
+read-named f = (
+  λ h. let e = lt-ltb (f .header .p1) 0x80 h in (simp e, simp e),
+  λ h. let e = le-ltb (f .header .p1) 0x80 h in (simp e, simp e),
+)
+
 pub read-done : Read-done
 read-done img s cmd buf f b = came img s cmd buf f b R (readBinary img s f) led tests
   where
@@ -308,15 +328,18 @@ read-done img s cmd buf f b = came img s cmd buf f b R (readBinary img s f) led 
     word : (w : ℕ) → ltb w 0x9000 ≡ true → Came img s (dataOf cmd) buf R (Status w)
     word = word-came img s (dataOf cmd) buf R
 
-    read : (t : Transparent) → resolveTransparent img s (readNamed f) ≡ TransparentAt t → readOffset f < length (fileBytes img t)
+    read : (t : Transparent) → resolveTransparent img s (readNamed f) ≡ TransparentAt t → TransparentResolved img s t → readOffset f < length (fileBytes img t)
         → Came img s (dataOf cmd) buf R (ReadBinary t (readOffset f) (min (f .ne) (min 2048 (length (fileBytes img t) - readOffset f))))
-    read t e h z =
+    read t e r h z =
         unfold done says in
         let n : ℕ = min (f .ne) (min 2048 (length (fileBytes img t) - readOffset f)) in
+        let i = transparent-inspected img s (readNamed f) t e r in
         let l : length (part (fileBytes img t) (readOffset f) n) ≤ 2048 = omega (arith, length-take n (drop (readOffset f) (fileBytes img t))) in
         record {
           file = t;
-          reached = e;
+          offset = readOffset f;
+          of-current = λ y. let q = read-named f .0 y in (subst (λ (x : Named). Inspected img s x (TransparentFile t)) (q .0) i, q .1);
+          of-short = λ y. let q = read-named f .1 y in (subst (λ (x : Named). Inspected img s x (TransparentFile t)) (q .0) i, q .1);
           inside = h;
           told = data-said 0x9000 (part (fileBytes img t) (readOffset f) n) (setFile s (TransparentFile t)) img buf l (accepted-room img s buf (is-accepted img s cmd buf f b));
           image-kept = refl;
@@ -326,7 +349,7 @@ read-done img s cmd buf f b = came img s cmd buf f b R (readBinary img s f) led 
     on : (t : Transparent) → resolveTransparent img s (readNamed f) ≡ TransparentAt t → TransparentResolved img s t → Came img s (dataOf cmd) buf R (readBinaryOn img (readOffset f) (f .ne) t)
     on t e r =
         unfold readBinaryOn in
-        inOrder-each (Came img s (dataOf cmd) buf R) _ _ (word 0x6B00 refl, tt) (λ p. read t e (ltb-true (readOffset f) (length (fileBytes img t)) (p .0)))
+        inOrder-each (Came img s (dataOf cmd) buf R) _ _ (word 0x6B00 refl, tt) (λ p. read t e r (ltb-true (readOffset f) (length (fileBytes img t)) (p .0)))
 
     tests : Came img s (dataOf cmd) buf R (readBinary img s f)
     tests =
@@ -378,7 +401,7 @@ select-done img s cmd buf f b = came img s cmd buf f b R (select img s f (dataOf
         (λ g q r z. record {
           p1-known = List·Memᴰ·tail (List·Memᴰ·head e);
           by-aid = λ y. absurd (omega (arith, e, y));
-          by-id = λ _. (g, l, q, refl);
+          by-id = λ _. (g, l, file-inspected img s (Id (idIn (dataOf cmd))) g q r, refl);
           by-master = λ y. absurd (omega (arith, e, y));
           image-kept = refl;
           nothing-told = refl;
@@ -445,7 +468,7 @@ fmm-done img s cmd buf f y b = came img s cmd buf f b R (fmm img s f (dataOf cmd
           named = n;
           of-current = c;
           of-named = d;
-          reached = e;
+          reached = file-inspected img s n g e r;
           told = data-said 0x9000 (reportData p2 (total img g) (remaining img g) (existing img g)) (setFile s g) img buf
               (report-bound p2 (total img g) (remaining img g) (existing img g)) (accepted-room img s buf (is-accepted img s cmd buf f b));
           image-kept = refl;

@@ -29,7 +29,7 @@ use Rattle.store_files.specs.declared.Lookup.{Lookup}
 use Rattle.store_files.specs.declared.Lookup.the-variants.{Known, NoFile}
 use Rattle.store_files.proofs.Meant.{LookupOk, byId-wellFormed}
 use Rattle.machine_session.specs.Session.{opened, placed, isCurrent, setFile, applicationFits, isKnown, isRecordOf, recordFits, placeFits, sessionFits}
-use Rattle.machine_session.specs.Verdict.{verdict}
+use Rattle.machine_session.specs.Verdict.{verdict, verdictNumber}
 use Rattle.machine_session.specs.declared.Session.{Session}
 use Rattle.machine_session.specs.declared.Verdict.{Verdict}
 use Rattle.machine_session.specs.declared.Verdict.the-variants.{Accepted, Refused}
@@ -239,7 +239,7 @@ answer-fits img s cmd buf o e =
     stepBy-fits img s cmd buf o e (verdictOn img s (length buf)) (record { files = g .files; counts = λ k b. more-records img _ k _ (g .records k b) })
 
 pub stays-accepted : Stays-accepted
-unfolding verdict history
+unfolding verdict verdictNumber history
 stays-accepted img calls s n o e l =
     let h = calls-held img calls o in
     let k : Keeps img (after img calls) = record { files = h .files; counts = λ k b. more-records img _ k _ (h .records k b) } in

@@ -16,6 +16,7 @@ use Rattle.store_kinds.specs.Rules.{isBiometrics, biometricsKind}
 use Rattle.store_image.specs.Image.{has, body, wellFormed, recordsOf, appendTo, updateIn}
 use Rattle.store_kinds.specs.declared.rules.Rule.{Rule}
 use Rattle.store_image.proofs.Laws.{Accepts, Changed, append-changes, append-list, records-kept, biometrics-file, update-changes, activate-changes, nth-kept}
+use Rattle.store_files.specs.declared.File.the-variants.{RecordFile}
 use Rattle.objects_templates.specs.declared.Writes.{Writes}
 use Rattle.objects_templates.specs.declared.Search.{Search}
 use Rattle.machine_record.specs.SearchRecord.{searchStatus}
@@ -24,7 +25,6 @@ use Rattle.machine_session.specs.declared.Session.{Session}
 use Rattle.machine_session.specs.declared.Verdict.{Verdict}
 use Rattle.machine_session.specs.declared.Verdict.the-variants.{Accepted, Refused}
 use Rattle.machine_session.specs.declared.Access.the-variants.{Append}
-use Rattle.machine_session.specs.declared.ResolvedRecord.{ResolvedRecord}
 use Rattle.machine_session.specs.declared.ResolvedRecord.the-variants.{RecordAt}
 use Rattle.machine_apdu.specs.Shape.{shapeOf}
 use Rattle.machine_apdu.specs.declared.Apdu.{Apdu}
@@ -41,8 +41,10 @@ use Rattle.machine.specs.Step.{verdictOn, stepBy, step}
 use Rattle.store_move.specs.Moving.{moveCard, moveCardInto}
 use Rattle.store_move.specs.declared.Moved.{Moved}
 use Rattle.store_move.specs.declared.Moved.the-variants.{Image, Refused as MoveRefused}
-use Rattle.promises.specs.Calls.{Call, Open, Command, Move, imageAfterMove, afterCall, after, isPair, isOfKind, addedBy, added, additions, history}
+use Rattle.promises.specs.Calls.{Call, Open, Command, Move, imageAfterMove, afterCall, after, isPair, addedBy, added, additions, history}
+use Rattle.promises.specs.Files.{isMeantKind}
 use Rattle.promises.specs.Promises.{Holds, Number-kept}
+use Rattle.promises.proofs.Naming.{record-meant, record-listed, p2-meant, kind-meant}
 use Rattle.promises.proofs.Moving.{move-done}
 
 -- an image that has lost no file, in which each record file has some records more
@@ -74,37 +76,39 @@ module _ (img : List ℕ) (o : wellFormed img ≡ true) where
 
 module _ (img : List ℕ) (s : Session) (cmd : List ℕ) (f : Frame) (w : ℕ) where
   abbrev tests : ℕ → List Bool
-  tests k = isPair f 0x00 0xE2 ∷ eqb w 0x9000 ∷ isOfKind (resolveRecord img s Append (orCurrent (f .header .p2 / 8))) k ∷ []
+  tests k = isPair f 0x00 0xE2 ∷ eqb w 0x9000 ∷ isMeantKind s (f .header .p2 / 8) k ∷ []
 
-  none : (k : ℕ) → (allOf (tests k) ≡ true → ⊥) → addedBy k img s cmd w (Good f) ≡ []
+  none : (k : ℕ) → (allOf (tests k) ≡ true → ⊥) → addedBy k s cmd w (Good f) ≡ []
   none k h = ifElse-ind (λ (l : List (List ℕ)). l ≡ []) (allOf (tests k)) (λ e. absurd (h e)) (λ e. refl)
 
   -- nothing by another command, and nothing by a status other than 9000
-  by-pair : (c i : ℕ) → Pair f c i → allOf (eqb c 0x00 ∷ eqb i 0xE2 ∷ []) ≡ false → (k : ℕ) → addedBy k img s cmd w (Good f) ≡ []
+  by-pair : (c i : ℕ) → Pair f c i → allOf (eqb c 0x00 ∷ eqb i 0xE2 ∷ []) ≡ false → (k : ℕ) → addedBy k s cmd w (Good f) ≡ []
   unfolding isPair
   by-pair c i p e k =
       none k (λ h. false-true (sym e
       ∙ sym (ap₂ (λ (x y : ℕ). allOf (eqb x 0x00 ∷ eqb y 0xE2 ∷ [])) (eqb-true (f .header .cla) c (p .0)) (eqb-true (f .header .ins) i (p .1)))
       ∙ allOf-facts (tests k) h .0))
 
-  by-status : ltb w 0x9000 ≡ true → (k : ℕ) → addedBy k img s cmd w (Good f) ≡ []
+  by-status : ltb w 0x9000 ≡ true → (k : ℕ) → addedBy k s cmd w (Good f) ≡ []
   by-status e k = none k (λ h. absurd (omega (arith, ltb-true w 0x9000 e, eqb-true w 0x9000 (allOf-facts (tests k) h .1 .0))))
 
-  -- its data, to the file that steps 7 to 9 answer
+  -- its data, to the file that P2 means
   module _ (r : Rule) (p : Pair f 0x00 0xE2) (e : resolveRecord img s Append (orCurrent (f .header .p2 / 8)) ≡ RecordAt r) (is : eqb w 0x9000 ≡ true) where
-    of-kind : (k : ℕ) → isOfKind (resolveRecord img s Append (orCurrent (f .header .p2 / 8))) k ≡ eqb (r .kind) k
-    of-kind k = ap (λ (x : ResolvedRecord). isOfKind x k) e
+    of-kind : (k : ℕ) → isMeantKind s (f .header .p2 / 8) k ≡ eqb (r .kind) k
+    of-kind =
+        kind-meant s (f .header .p2 / 8) r (record-listed img s Append (orCurrent (f .header .p2 / 8)) r e)
+        (p2-meant s (f .header .p2 / 8) (RecordFile r) (record-meant img s Append (orCurrent (f .header .p2 / 8)) r e))
 
-    to-file : addedBy (r .kind) img s cmd w (Good f) ≡ part cmd (f .from) (f .lc) ∷ []
+    to-file : addedBy (r .kind) s cmd w (Good f) ≡ part cmd (f .from) (f .lc) ∷ []
     to-file =
         let t : allOf (tests (r .kind)) ≡ true = allOf-accepted (tests (r .kind)) (unfold isPair in allOf-accepted _ (p .0, (p .1, tt)), (is, (of-kind (r .kind) ∙ eq-eqb (r .kind) (r .kind) refl, tt))) in
         ap (λ (b : Bool). ifElse b (part cmd (f .from) (f .lc) ∷ []) []) t
 
-    to-another : (k : ℕ) → (k ≡ r .kind → ⊥) → addedBy k img s cmd w (Good f) ≡ []
+    to-another : (k : ℕ) → (k ≡ r .kind → ⊥) → addedBy k s cmd w (Good f) ≡ []
     to-another k n = none k (λ h. n (sym (eqb-true (r .kind) k (sym (of-kind k) ∙ allOf-facts (tests k) h .1 .1 .0))))
 
 -- a refusal has status 0, and adds nothing
-pub refused-none : (img : List ℕ) (s : Session) (cmd : List ℕ) (a : Apdu) (k : ℕ) → addedBy k img s cmd 0 a ≡ []
+pub refused-none : (img : List ℕ) (s : Session) (cmd : List ℕ) (a : Apdu) (k : ℕ) → addedBy k s cmd 0 a ≡ []
 refused-none img s cmd Bad k = refl
 refused-none img s cmd (Good f) k = by-status img s cmd f 0 refl k
 
@@ -124,7 +128,7 @@ module _ (img : List ℕ) (s : Session) (cmd buf : List ℕ) (o : wellFormed img
       }
 
   appends-grown : (f : Frame) (r : Rule) → From img s f (part cmd (f .from) (f .lc)) (AppendRecord r)
-      → Grown img (appendTo img (r .kind) (part cmd (f .from) (f .lc))) (λ k. addedBy k img s cmd 0x9000 (Good f))
+      → Grown img (appendTo img (r .kind) (part cmd (f .from) (f .lc))) (λ k. addedBy k s cmd 0x9000 (Good f))
   appends-grown f r h =
       record { well = c .well; files = λ k h. c .same-files k ∙ h; records = λ k b. by-cases (eqb k (r .kind)) (λ e. here k (eqb-true k (r .kind) e)) (λ e. there k (eqb-false k (r .kind) e)) }
     where
@@ -137,12 +141,12 @@ module _ (img : List ℕ) (s : Session) (cmd buf : List ℕ) (o : wellFormed img
       c : Changed img (appendTo img (r .kind) d) (r .kind)
       c = append-changes img (r .kind) r d o a
 
-      here : (k : ℕ) → k ≡ r .kind → recordsOf (appendTo img (r .kind) d) k ≡ recordsOf img k ++ addedBy k img s cmd 0x9000 (Good f)
+      here : (k : ℕ) → k ≡ r .kind → recordsOf (appendTo img (r .kind) d) k ≡ recordsOf img k ++ addedBy k s cmd 0x9000 (Good f)
       here k e =
-          subst (λ (j : ℕ). recordsOf (appendTo img (r .kind) d) j ≡ recordsOf img j ++ addedBy j img s cmd 0x9000 (Good f)) (sym e)
+          subst (λ (j : ℕ). recordsOf (appendTo img (r .kind) d) j ≡ recordsOf img j ++ addedBy j s cmd 0x9000 (Good f)) (sym e)
           (append-list img (r .kind) r d o a ∙ ap (λ (l : List (List ℕ)). recordsOf img (r .kind) ++ l) (sym (to-file img s cmd f 0x9000 r (h .0) (h .1) refl)))
 
-      there : (k : ℕ) → (k ≡ r .kind → ⊥) → recordsOf (appendTo img (r .kind) d) k ≡ recordsOf img k ++ addedBy k img s cmd 0x9000 (Good f)
+      there : (k : ℕ) → (k ≡ r .kind → ⊥) → recordsOf (appendTo img (r .kind) d) k ≡ recordsOf img k ++ addedBy k s cmd 0x9000 (Good f)
       there k n =
           records-kept img (appendTo img (r .kind) d) (r .kind) c k n
           ∙ sym (append-nil (recordsOf img k))
@@ -172,7 +176,7 @@ module _ (img : List ℕ) (s : Session) (cmd buf : List ℕ) (o : wellFormed img
         update-changes img k o (i .kind) (i .stands) (w .offset) (part d (w .bytes .at) (w .bytes .len)) write-accepted
 
   done-grown : (f : Frame) (x : Action) → From img s f (part cmd (f .from) (f .lc)) x
-      → let u = done x img s (part cmd (f .from) (f .lc)) buf in Grown img (u .image) (λ k. addedBy k img s cmd (u .answer .status) (Good f))
+      → let u = done x img s (part cmd (f .from) (f .lc)) buf in Grown img (u .image) (λ k. addedBy k s cmd (u .answer .status) (Good f))
   unfolding done says allOf
   done-grown f (Status w) h = grown-none img o refl (by-status img s cmd f w h)
   done-grown f (SelectApplication a) h = grown-none img o refl (by-pair img s cmd f 0x9000 0x00 0xA4 (h .0) refl)
@@ -189,12 +193,12 @@ module _ (img : List ℕ) (s : Session) (cmd buf : List ℕ) (o : wellFormed img
   done-grown f (Report g p2) h = grown-none img o refl (by-pair img s cmd f 0x9000 0x80 0x5E (h .0) refl)
 
   shape-grown : (a : Apdu) (x : Action) → FromShape img s cmd a x
-      → let u = done x img s (dataBy cmd a) buf in Grown img (u .image) (λ k. addedBy k img s cmd (u .answer .status) a)
+      → let u = done x img s (dataBy cmd a) buf in Grown img (u .image) (λ k. addedBy k s cmd (u .answer .status) a)
   unfolding done says
   shape-grown Bad x h = grown-none img o (ap (λ (y : Action). done y img s [] buf .image) h) (λ k. refl)
   shape-grown (Good f) x h = done-grown f x h
 
-  stepBy-grown : (x : Verdict) → let u = stepBy x img s cmd buf in Grown img (u .image) (λ k. addedBy k img s cmd (u .answer .status) (shapeOf cmd))
+  stepBy-grown : (x : Verdict) → let u = stepBy x img s cmd buf in Grown img (u .image) (λ k. addedBy k s cmd (u .answer .status) (shapeOf cmd))
   unfolding stepBy dataOf
   stepBy-grown Accepted = shape-grown (shapeOf cmd) (decide img s cmd) (decide-from img s cmd)
   stepBy-grown (Refused r) = grown-none img o refl (refused-none img s cmd (shapeOf cmd))

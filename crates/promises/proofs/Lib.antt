@@ -1,4 +1,5 @@
 -- Proofs of the promises: the theorems are in Promises.
+pub mod Naming
 pub mod Keeping
 pub mod Wording
 pub mod Opening

@@ -1,5 +1,5 @@
 -- READ RECORD returns the records of a file's history.
-use Prim.Native.Nat.{ℕ, _≤_}
+use Prim.Native.Nat.{ℕ, _/_, _≤_}
 use mathlib.Core.Path.{_≡_, refl, sym, ap, ap₂, subst, _∙_}
 use mathlib.Core.Bool.{Bool, true, false}
 use mathlib.Core.List.{List, [], _∷_}
@@ -10,7 +10,7 @@ use lib.Dec.{leb, eqb}
 use borrow.Author.Tests.{eqb-true, eq-eqb, ne-eqb, leb-true, ltb-true}
 use Rattle.base.specs.Choice.{ifElse, allOf}
 use Rattle.base.specs.Bytes.{part}
-use Rattle.base.proofs.Cases.{by-cases, false-true, allOf-facts}
+use Rattle.base.proofs.Cases.{by-cases, ifElse-ind, false-true, allOf-facts}
 use Rattle.store_records.specs.Body.{count, nth}
 use Rattle.store_kinds.specs.Rules.{isBiometrics}
 use Rattle.store_image.specs.Image.{body, wellFormed, recordsOf}
@@ -19,7 +19,16 @@ use Rattle.store_kinds.specs.declared.rules.Rule.{Rule}
 use Rattle.store_kinds.specs.declared.rules.Ruled.the-variants.{Is, Nothing}
 use Rattle.store_image.proofs.Laws.{rule-regular, biometrics-unruled, records-count, record-file, record-size}
 use Rattle.store_files.specs.Loops.{Stored}
+use Rattle.store_files.specs.declared.File.the-variants.{RecordFile}
+use Rattle.machine_session.specs.Session.{recordNumberAt, currentRecord}
+use Rattle.machine_session.specs.declared.Place.{Place}
+use Rattle.machine_session.specs.declared.Place.the-variants.{Nowhere, OnFile, OnRecord}
+use Rattle.machine_session.specs.declared.RecordNumber.{RecordNumber}
+use Rattle.machine_session.specs.declared.RecordNumber.the-variants.{Number, NoNumber}
+use Rattle.machine_session.specs.declared.Access.the-variants.{Read}
 use Rattle.machine_session.specs.declared.Session.{Session}
+use Rattle.machine_action.specs.Tests.{orCurrent}
+use Rattle.machine_record.specs.ReadRecord.{recordNamed}
 use Rattle.machine_apdu.specs.declared.Apdu.{Apdu}
 use Rattle.machine_apdu.specs.declared.Frame.{Frame}
 use Rattle.machine_dispatch.specs.Decide.{decide, dataBy, dataOf}
@@ -36,6 +45,7 @@ use Rattle.promises.specs.Calls.{after, isPair, history}
 use Rattle.promises.specs.Promises.{dataIn, Reads, Reads-history}
 use Rattle.promises.proofs.Answering.{data-said, step-accepted, accepted-room, status-accepted}
 use Rattle.promises.proofs.Growing.{calls-held}
+use Rattle.promises.proofs.Naming.{record-meant, record-permitted, p2-meant}
 
 -- a record file is no biometrics file
 pub stored-records : (img : List ℕ) (r : Rule) → Stored img r → isBiometrics (r .kind) ≡ false
@@ -46,6 +56,25 @@ stored-records img r f =
   where
     is-not : Nothing ≡ Is r → ⊥
     is-not e = let z : _≡_ {A = ℕ} 0 1 = cc in omega arith
+
+-- the number is P1, or the current record's
+record-named : (s : Session) (r : Rule) (p n : ℕ) → recordNamed s r p ≡ Number n → ((p ≡ 0 → ⊥) → n ≡ p) × (p ≡ 0 → s .place ≡ OnRecord (r .id) n)
+unfolding recordNamed currentRecord
+record-named s r p n e = (
+  λ z. let h : Number p ≡ Number n = simp (ne-eqb p 0 z) at e in let y : p ≡ n = cc in sym y,
+  λ z. go (s .place) (simp (eq-eqb p 0 z) at e),
+)
+  where
+    no : {A : Type 0} → NoNumber ≡ Number n → A
+    no h = absurd (let z : _≡_ {A = ℕ} 0 1 = cc in omega arith)
+
+    go : (p : Place) → recordNumberAt p (r .id) ≡ Number n → p ≡ OnRecord (r .id) n
+    go Nowhere = no
+    go (OnFile j) = no
+    go (OnRecord j m) =
+        ifElse-ind (λ (y : RecordNumber). y ≡ Number n → OnRecord j m ≡ OnRecord (r .id) n) (eqb j (r .id))
+        (λ t h. let y : m ≡ n = cc in ap₂ OnRecord (eqb-true j (r .id) t) y)
+        (λ t h. no h)
 
 module _ (img : List ℕ) (s : Session) (cmd buf : List ℕ) (f : Frame) (o : wellFormed img ≡ true) (room : 2050 ≤ length buf) where
   abbrev d : List ℕ
@@ -66,7 +95,7 @@ module _ (img : List ℕ) (s : Session) (cmd buf : List ℕ) (f : Frame) (o : we
   read-said r a b = data-said 0x9000 (recordsData (recordsOf img (r .kind)) a b) _ img buf (records-bound (recordsOf img (r .kind)) a b) room
 
   -- by the records that the file has
-  reads : (rs : ℕ → List (List ℕ)) → ((k : ℕ) → isBiometrics k ≡ false → recordsOf img k ≡ rs k) → (r : Rule) (a b : ℕ) → ReadBy img s f r a b → Reads img s f rs (done (ReadRecord r a b) img s d buf)
+  reads : (rs : ℕ → List (List ℕ)) → ((k : ℕ) → isBiometrics k ≡ false → recordsOf img k ≡ rs k) → (r : Rule) (a b : ℕ) → ReadBy img s f r a b → Reads s f rs (done (ReadRecord r a b) img s d buf)
   unfolding recordsOf
   reads rs same r a b h =
       let g = h .file .file .ok in
@@ -79,8 +108,10 @@ module _ (img : List ℕ) (s : Session) (cmd buf : List ℕ) (f : Frame) (o : we
       record {
         rule = r;
         number = a;
-        file = h .at;
-        named = h .first;
+        meant = p2-meant s (f .header .p2 / 8) (RecordFile r) (record-meant img s Read (orCurrent (f .header .p2 / 8)) r (h .at));
+        permitted = record-permitted img s Read (orCurrent (f .header .p2 / 8)) r (h .at);
+        by-number = λ z. record-named s r (f .header .p1) a (h .first) .0 z;
+        by-current = λ z. record-named s r (f .header .p1) a (h .first) .1 z;
         low = l;
         high = omega arith;
         one = λ t. let u : b ≡ a = h .last ∙ ap (λ (x : Bool). ifElse x a (count (body img (r .kind)))) (eq-eqb _ _ t) in
@@ -100,7 +131,7 @@ module _ (img : List ℕ) (s : Session) (cmd buf : List ℕ) (f : Frame) (o : we
       (sym e ∙ sym (ap₂ (λ (x y : ℕ). allOf (eqb x 0x00 ∷ eqb y 0xB2 ∷ [])) (eqb-true (f .header .cla) c (p .0)) (eqb-true (f .header .ins) i (p .1))) ∙ q)
 
   read-decided : (rs : ℕ → List (List ℕ)) → ((k : ℕ) → isBiometrics k ≡ false → recordsOf img k ≡ rs k) → isPair f 0x00 0xB2 ≡ true → (x : Action) → From img s f d x
-      → done x img s d buf .answer .status ≡ 0x9000 → Reads img s f rs (done x img s d buf)
+      → done x img s d buf .answer .status ≡ 0x9000 → Reads s f rs (done x img s d buf)
   unfolding allOf
   read-decided rs same q (Status w) h e = let z : w ≡ 0x9000 = unfold done says in e in absurd (omega (arith, ltb-true w 0x9000 h))
   read-decided rs same q (SelectApplication a) h e = other 0x00 0xA4 (h .0) q refl
@@ -121,6 +152,6 @@ reads-history img calls s cmd buf f o e q t =
     let u : step now s cmd buf ≡ done (decide now s cmd) now s (part cmd (f .from) (f .lc)) buf =
     step-accepted now s cmd buf x ∙ ap (λ (l : List ℕ). done (decide now s cmd) now s l buf) (unfold dataOf in ap (dataBy cmd) e) in
     let c : From now s f (part cmd (f .from) (f .lc)) (decide now s cmd) = subst (λ (a : Apdu). FromShape now s cmd a (decide now s cmd)) e (decide-from now s cmd) in
-    subst (Reads now s f (λ k. history k img calls)) (sym u)
+    subst (Reads s f (λ k. history k img calls)) (sym u)
     (read-decided now s cmd buf f (h .well) (accepted-room now s buf x) (λ k. history k img calls) (h .records) q (decide now s cmd) c
     (sym (ap (λ (z : Outcome). z .answer .status) u) ∙ t))

@@ -1,17 +1,18 @@
 -- SEARCH RECORD names exactly the records of a file's history that match. Read ../specs/Promises.antt, section 3, before. Exports
 -- `leaves-none-out`.
-use Prim.Native.Nat.{ℕ, _≤_}
+use Prim.Native.Nat.{ℕ, _+_, _-_, _≤_}
 use mathlib.Core.Path.{_≡_, refl, sym, ap, ap₂, subst, _∙_}
 use mathlib.Core.Bool.{Bool, true, false}
-use mathlib.Core.Logic.{⊎-elim}
-use mathlib.Core.List.{List, [], _∷_}
+use mathlib.Core.Logic.{_⊎_, inl, inr, ⊎-elim}
+use mathlib.Core.List.{List, [], _∷_, _++_, append-assoc}
 use mathlib.Core.List.{List·Memᴰ, List·Memᴰ·head, List·Memᴰ·not-nil, List·Memᴰ·cases-cons}
 use native.Mathlib.Omega.{arith}
-use lib.ListN.{length, take, getD}
+use lib.ListN.{length, take, drop, getD, length-take, length-drop, length-append, take-append-drop}
+use lib.Seq.{drop-append-le, take-append-add}
 use lib.Dec.{leb, ltb, eqb}
-use borrow.Author.Tests.{ltb-true, ltb-false, leb-true, le-leb}
+use borrow.Author.Tests.{eqb-true, eqb-false, ltb-true, ltb-false, leb-true, le-leb}
 use Rattle.base.specs.Choice.{ifElse}
-use Rattle.base.proofs.Cases.{by-cases, false-true}
+use Rattle.base.proofs.Cases.{by-cases, ifElse-ind, false-true}
 use Rattle.store_records.specs.Body.{nth}
 use Rattle.store_image.specs.Image.{wellFormed, recordsOf}
 use Rattle.store_kinds.specs.declared.rules.Rule.{Rule}
@@ -40,18 +41,60 @@ use Rattle.machine.proofs.Seeking.{reply-short, searched-refused, searched-foun
 use Rattle.promises.specs.Calls.{after, history}
 use Rattle.promises.specs.Matches.{Stands, Matches}
 use Rattle.promises.specs.Promises.{dataIn, Ascending, Names, Leaves-none-out}
-use Rattle.promises.proofs.Answering.{data-said, step-accepted, accepted-room}
-use Rattle.promises.proofs.Deciding.{search-decided-complete}
+use Rattle.promises.proofs.Answering.{data-said, step-accepted, taken-accepted, accepted-room}
+use Rattle.promises.proofs.Deciding.{searching-resolved, search-decided-complete}
 use Rattle.promises.proofs.Growing.{calls-held}
 use Rattle.promises.proofs.Reading.{stored-records}
 
--- ---- the text stands in a window exactly where the test of a match says so
+-- ---- the string stands in the record, from the offset on and within the number, exactly where the test of a match says so
 
-stands-tested : (text w : List ℕ) → Stands text w → occursIn text w ≡ true
-stands-tested text w h = ap (occursIn text) (h .is) ∙ occurs-complete text (h .before) (h .behind)
+stands-tested : (r t : List ℕ) (o m : ℕ) → Stands r t o m → occursIn t (windowOf r o m) ≡ true
+unfolding windowOf
+stands-tested r t o m h = ifElse-ind (λ (w : List ℕ). occursIn t w ≡ true) (eqb m 0) (λ _. whole) (λ n. ⊎-elim (λ z. absurd (eqb-false m 0 n z)) cut (h .within))
+  where
+    x : List ℕ
+    x = drop o (h .before)
 
-tested-stands : (text w : List ℕ) → occursIn text w ≡ true → Stands text w
-tested-stands text w e = let h = occurs-sound text w e in record { before = h .before; behind = h .after; is = h .is }
+    dropped : drop o r ≡ x ++ (t ++ h .behind)
+    dropped = ap (drop o) (h .is) ∙ drop-append-le o (h .before) (t ++ h .behind) (h .from)
+
+    whole : occursIn t (drop o r) ≡ true
+    whole = ap (occursIn t) dropped ∙ occurs-complete t x (h .behind)
+
+    cut : length (h .before) + length t ≤ o + m → occursIn t (take m (drop o r)) ≡ true
+    cut l =
+        let k : ℕ = m - (length x + length t) in
+        let e : m ≡ length x + (length t + k) = omega (arith, length-drop o (h .before), h .from, l) in
+        ap (occursIn t)
+        (ap₂ (λ (n : ℕ) (w : List ℕ). take n w) e dropped
+        ∙ take-append-add x (t ++ h .behind) (length t + k)
+        ∙ ap (λ (w : List ℕ). x ++ w) (take-append-add t (h .behind) k))
+        ∙ occurs-complete t x (take k (h .behind))
+
+tested-stands : (r t : List ℕ) (o m : ℕ) → 1 ≤ length t → occursIn t (windowOf r o m) ≡ true → Stands r t o m
+unfolding windowOf
+tested-stands r t o m l =
+    ifElse-ind (λ (w : List ℕ). occursIn t w ≡ true → Stands r t o m) (eqb m 0)
+    (λ z e. let h = occurs-sound t (drop o r) e in placed (h .before) (h .after) (h .is) (inl (eqb-true m 0 z)))
+    (λ _ e. let h = occurs-sound t (take m (drop o r)) e in
+    placed (h .before) (h .after ++ drop m (drop o r))
+    (sym (take-append-drop m (drop o r)) ∙ ap (λ (w : List ℕ). w ++ drop m (drop o r)) (h .is)
+    ∙ append-assoc (h .before) (t ++ h .after) (drop m (drop o r)) ∙ ap (λ (w : List ℕ). h .before ++ w) (append-assoc t (h .after) (drop m (drop o r))))
+    (inr (let a = ap length (h .is) in let b = length-append (h .before) (t ++ h .after) in let c = length-append t (h .after) in
+    omega (arith, a, b, c, length-take m (drop o r)))))
+  where
+    placed : (x c : List ℕ) → drop o r ≡ x ++ (t ++ c) → (m ≡ 0) ⊎ (length x + length t ≤ m) → Stands r t o m
+    placed x c e w =
+        let a = ap length e in
+        let n : length (take o r) ≡ o = omega (arith, a, length-append x (t ++ c), length-append t c, length-drop o r, length-take o r) in
+        let k : length (take o r ++ x) ≡ o + length x = length-append (take o r) x ∙ ap (λ (y : ℕ). y + length x) n in
+        record {
+          before = take o r ++ x;
+          behind = c;
+          is = sym (take-append-drop o r) ∙ ap (λ (y : List ℕ). take o r ++ y) e ∙ sym (append-assoc (take o r) x (t ++ c));
+          from = omega (arith, k);
+          within = ⊎-elim (λ z. inl z) (λ z. inr (omega (arith, k, z))) w;
+        }
 
 -- ---- the numbers that are listed
 
@@ -67,7 +110,7 @@ first-ascending : (b : ℕ) (l : List ℕ) → Up b l → Ascending b (take 1 l)
 first-ascending b [] u = tt
 first-ascending b (x ∷ l) u = (u .0, tt)
 
-module _ (rs : List (List ℕ)) (x : SearchFields) where
+module _ (rs : List (List ℕ)) (x : SearchFields) (some : 1 ≤ length (x .text)) where
   abbrev offset : ℕ
   offset = big (x .offset)
 
@@ -87,11 +130,11 @@ module _ (rs : List (List ℕ)) (x : SearchFields) where
   unfolding matchesIn
   matches n m =
       let s = matching-sound rs offset number (x .text) n m in
-      record { low = s .0; high = s .1; stands = tested-stands (x .text) (windowOf (nth rs n) offset number) (s .2) }
+      record { low = s .0; high = s .1; stands = tested-stands (nth rs n) (x .text) offset number some (s .2) }
 
   tested : (n : ℕ) → Matches rs x n → matchesIn (nth rs n) offset number (x .text) ≡ true
   unfolding matchesIn
-  tested n h = stands-tested (x .text) (windowOf (nth rs n) offset number) (h .stands)
+  tested n h = stands-tested (nth rs n) (x .text) offset number (h .stands)
 
   found-all : (n : ℕ) → Matches rs x n → List·Memᴰ n found
   found-all n h = matching-complete rs offset number (x .text) n (h .low) (h .high) (tested n h)
@@ -150,6 +193,9 @@ module _ (img : List ℕ) (s : Session) (d buf : List ℕ) (r : Rule) (q : Searc
   abbrev here : List (List ℕ)
   here = recordsOf img (r .kind)
 
+  abbrev some : 1 ≤ length (x .text)
+  some = w .sized .text-size
+
   abbrev out : Outcome
   out = searched img s d buf r q ne
 
@@ -157,19 +203,19 @@ module _ (img : List ℕ) (s : Session) (d buf : List ℕ) (r : Rule) (q : Searc
   file-short = let l = ap length (w .file-placed .is) in omega (arith, w .sized .file-size .1)
 
   -- what is listed and replied, in the words of the fields
-  hits-are : searchHits here d q ≡ numbers here x
+  hits-are : searchHits here d q ≡ numbers here x some
   unfolding searchHits
   hits-are = cc
 
-  reply-is : searchReply here d q ≡ foundData (x .file) (numbers here x)
+  reply-is : searchReply here d q ≡ foundData (x .file) (numbers here x some)
   unfolding searchReply
   reply-is = reply-whole (fileIn d q) (searchHits here d q) (omega (arith, file-short)) ∙ ap₂ foundData (w .file-placed .is) hits-are
 
   -- which of the three answers
-  fits : (b : Bool) → leb (length (foundData (x .file) (numbers here x))) ne ≡ b → leb (length (searchReply here d q)) ne ≡ b
+  fits : (b : Bool) → leb (length (foundData (x .file) (numbers here x some))) ne ≡ b → leb (length (searchReply here d q)) ne ≡ b
   fits b e = ap (λ (l : List ℕ). leb (length l) ne) reply-is ∙ e
 
-  replied : 1 ≤ length (numbers here x) → length (foundData (x .file) (numbers here x)) ≤ ne → (out .answer .status ≡ 0x9000) × (dataIn out ≡ foundData (x .file) (numbers here x))
+  replied : 1 ≤ length (numbers here x some) → length (foundData (x .file) (numbers here x some)) ≤ ne → (out .answer .status ≡ 0x9000) × (dataIn out ≡ foundData (x .file) (numbers here x some))
   unfolding says
   replied l f =
       let e = searched-found img s d buf r q ne (searchStatus-found here d q ne (rw hits-are l) (fits true (le-leb _ _ f))) in (
@@ -179,31 +225,31 @@ module _ (img : List ℕ) (s : Session) (d buf : List ℕ) (r : Rule) (q : Searc
             ∙ reply-is,
       )
 
-  nothing : length (numbers here x) ≡ 0 → (out .answer .status ≡ 0x6282) × (out .answer .length ≡ 2)
+  nothing : length (numbers here x some) ≡ 0 → (out .answer .status ≡ 0x6282) × (out .answer .length ≡ 2)
   unfolding says
   nothing z =
       let e = searched-refused img s d buf r q ne (searchStatus-none here d q ne (ap length hits-are ∙ z)) (λ y. omega (arith, y)) in
       (ap (λ (y : Outcome). y .answer .status) e, ap (λ (y : Outcome). y .answer .length) e)
 
   -- where some are listed the status is another
-  something : 1 ≤ length (numbers here x) → out .answer .status ≡ 0x6282 → ⊥
+  something : 1 ≤ length (numbers here x some) → out .answer .status ≡ 0x6282 → ⊥
   unfolding says
   something l t =
-      by-cases (leb (length (foundData (x .file) (numbers here x))) ne)
+      by-cases (leb (length (foundData (x .file) (numbers here x some))) ne)
       (λ b. let e = replied l (leb-true _ _ b) .0 in omega (arith, e, t))
       (λ b. let e = ap (λ (y : Outcome). y .answer .status) (searched-refused img s d buf r q ne (searchStatus-over here d q ne (rw hits-are l) (fits false b)) (λ y. omega (arith, y))) in omega (arith, e, t))
 
   names-here : Names here x ne out
   names-here =
       record {
-        numbers = numbers here x;
-        ascending = ascends here x;
-        listed-sound = listed-sound here x;
-        listed-complete = listed-complete here x;
-        first = first here x;
-        reply = λ n m f. replied (listed-some here x n m) f;
-        none-complete = λ f. nothing (listed-none here x f);
-        none-sound = λ t n m. something (listed-some here x n m) t;
+        numbers = numbers here x some;
+        ascending = ascends here x some;
+        listed-sound = listed-sound here x some;
+        listed-complete = listed-complete here x some;
+        first = first here x some;
+        reply = λ n m f. replied (listed-some here x some n m) f;
+        none-complete = λ f. nothing (listed-none here x some f);
+        none-sound = λ t n m. something (listed-some here x some n m) t;
       }
 
 pub leaves-none-out : Leaves-none-out
@@ -212,10 +258,11 @@ leaves-none-out img calls s cmd buf f x r o z =
     let h = calls-held img calls o in
     let c = search-decided-complete now s cmd buf f x r z in
     let q = c .0 in
-    let g : RecordResolved now s Read r = subst (RecordOk now s Read) (z .file) (resolveRecord-wellFormed now s Read (searchNamed (x .file))) in
+    let a = taken-accepted now s cmd buf (z .taken) in
+    let g : RecordResolved now s Read r = subst (RecordOk now s Read) (searching-resolved now s cmd buf f x r z) (resolveRecord-wellFormed now s Read (searchNamed (x .file))) in
     let u : step now s cmd buf ≡ searched now s (dataOf cmd) buf r q (f .ne) =
-    step-accepted now s cmd buf (z .accepted) ∙ ap (λ (y : Action). done y now s (dataOf cmd) buf) (c .1) ∙ (unfold done in refl) in
+    step-accepted now s cmd buf a ∙ ap (λ (y : Action). done y now s (dataOf cmd) buf) (c .1) ∙ (unfold done in refl) in
     let e : recordsOf now (r .kind) ≡ history (r .kind) img calls = h .records (r .kind) (stored-records now r (g .file .ok)) in
     subst (Names (history (r .kind) img calls) x (f .ne)) (sym u)
     (subst (λ (rs : List (List ℕ)). Names rs x (f .ne) (searched now s (dataOf cmd) buf r q (f .ne))) e
-    (names-here now s (dataOf cmd) buf r q (f .ne) x (c .2) (h .well) (accepted-room now s buf (z .accepted)) (g .file .ok)))
+    (names-here now s (dataOf cmd) buf r q (f .ne) x (c .2) (h .well) (accepted-room now s buf a) (g .file .ok)))

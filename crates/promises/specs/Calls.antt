@@ -1,26 +1,22 @@
 -- Calls as data, and what they leave of an image.
 use Prim.Native.Nat.{ℕ, _/_}
-use mathlib.Core.Bool.{Bool, false}
+use mathlib.Core.Bool.{Bool}
 use mathlib.Core.List.{List, [], _∷_, _++_}
 use lib.ListN.{length, take}
 use lib.Dec.{eqb}
 use Rattle.base.specs.Choice.{ifElse, allOf}
 use Rattle.base.specs.Bytes.{part}
 use Rattle.store_image.specs.Image.{recordsOf}
-use Rattle.machine_session.specs.Resolve.{resolveRecord}
 use Rattle.machine_session.specs.declared.Session.{Session}
-use Rattle.machine_session.specs.declared.Access.the-variants.{Append}
-use Rattle.machine_session.specs.declared.ResolvedRecord.{ResolvedRecord}
-use Rattle.machine_session.specs.declared.ResolvedRecord.the-variants.{RecordStop, RecordAt}
 use Rattle.machine_apdu.specs.Shape.{shapeOf}
 use Rattle.machine_apdu.specs.declared.Apdu.{Apdu}
 use Rattle.machine_apdu.specs.declared.Apdu.the-variants.{Bad, Good}
 use Rattle.machine_apdu.specs.declared.Frame.{Frame}
-use Rattle.machine_action.specs.Tests.{orCurrent}
 use Rattle.machine.specs.Step.{step}
 use Rattle.store_move.specs.Moving.{moveCard, moveCardInto}
 use Rattle.store_move.specs.declared.Moved.{Moved}
 use Rattle.store_move.specs.declared.Moved.the-variants.{Image, Refused}
+use Rattle.promises.specs.Files.{isMeantKind}
 
 -- an opening with the rights of three certificates, a command with any session and any response buffer, or a move by a list of rooms into
 -- any target [C3]
@@ -49,25 +45,17 @@ after img (c ∷ cs) = after (afterCall img c) cs
 unfoldable pub isPair : Frame → ℕ → ℕ → Bool
 isPair f cla ins = allOf (eqb (f .header .cla) cla ∷ eqb (f .header .ins) ins ∷ [])
 
--- steps 7 to 9 answer the record file of kind k [C7]
-abbrev pub isOfKind : ResolvedRecord → ℕ → Bool
-isOfKind (RecordStop w) k = false
-isOfKind (RecordAt r) k = eqb (r .kind) k
-
 -- what a command adds to the records of the file of kind k, where it is answered with the status w: the data field of an APPEND RECORD
 -- to that file that is answered 9000 [C7]
-abbrev pub addedBy : ℕ → List ℕ → Session → List ℕ → ℕ → Apdu → List (List ℕ)
-addedBy k img s cmd w Bad = []
-addedBy k img s cmd w (Good f) =
-    ifElse
-    (allOf (isPair f 0x00 0xE2 ∷ eqb w 0x9000 ∷ isOfKind (resolveRecord img s Append (orCurrent (f .header .p2 / 8))) k ∷ []))
-    (part cmd (f .from) (f .lc) ∷ [])
-    []
+abbrev pub addedBy : ℕ → Session → List ℕ → ℕ → Apdu → List (List ℕ)
+addedBy k s cmd w Bad = []
+addedBy k s cmd w (Good f) =
+    ifElse (allOf (isPair f 0x00 0xE2 ∷ eqb w 0x9000 ∷ isMeantKind s (f .header .p2 / 8) k ∷ [])) (part cmd (f .from) (f .lc) ∷ []) []
 
 -- what a call adds; a move adds nothing [C7] [M15]
 unfoldable pub added : ℕ → List ℕ → Call → List (List ℕ)
 added k img (Open rights) = []
-added k img (Command s cmd buf) = addedBy k img s cmd (step img s cmd buf .answer .status) (shapeOf cmd)
+added k img (Command s cmd buf) = addedBy k s cmd (step img s cmd buf .answer .status) (shapeOf cmd)
 added k img (Move list t) = []
 
 -- what calls add, in order [C7]

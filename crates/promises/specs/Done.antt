@@ -1,7 +1,7 @@
 -- A command that is answered 9000 did what it was asked: what stands in the image after a command that writes is answered 9000, and what the answer
 -- tells after one that reads. The command is its bytes: ISO's shape with the frame f, CLA and INS, the data field; the file is the one
--- that steps 7 to 9 answer. Each promise is a type; the theorem of the same name is in ../proofs/Promises.antt. READ RECORD and SEARCH
--- RECORD stand in Promises.antt. Read before: Promises.antt.
+-- that these bytes mean (Files.antt). Each promise is a type; the theorem of the same name is in ../proofs/Promises.antt. READ RECORD and SEARCH
+-- RECORD stand in Promises.antt. Read before: Files.antt, Promises.antt.
 use Prim.Native.Nat.{ℕ, _+_, _-_, _/_, _%_, _≤_, _<_, min, max}
 use mathlib.Core.Path.{_≡_}
 use mathlib.Core.Bool.{true}
@@ -22,28 +22,22 @@ use Rattle.store_files.specs.declared.AidName.the-variants.{Application}
 use Rattle.store_files.specs.declared.Transparent.{Transparent}
 use Rattle.store_files.specs.declared.Transparent.the-variants.{Biometrics}
 use Rattle.store_files.specs.declared.File.{File}
-use Rattle.store_files.specs.declared.File.the-variants.{TransparentFile}
+use Rattle.store_files.specs.declared.File.the-variants.{RecordFile, TransparentFile}
 use Rattle.machine_session.specs.Session.{placed, entered, setFile}
-use Rattle.machine_session.specs.Resolve.{resolveRecord, resolveTransparent, resolveBiometrics, resolveFile}
 use Rattle.machine_session.specs.declared.Place.the-variants.{OnFile, OnRecord}
 use Rattle.machine_session.specs.declared.Session.{Session}
 use Rattle.machine_session.specs.declared.Named.{Named}
 use Rattle.machine_session.specs.declared.Named.the-variants.{Current, Short, Id}
 use Rattle.machine_session.specs.declared.Access.the-variants.{Append}
-use Rattle.machine_session.specs.declared.ResolvedRecord.the-variants.{RecordAt}
-use Rattle.machine_session.specs.declared.ResolvedTransparent.the-variants.{TransparentAt}
-use Rattle.machine_session.specs.declared.ResolvedBiometrics.the-variants.{BiometricsAt}
-use Rattle.machine_session.specs.declared.ResolvedFile.the-variants.{FileAt}
 use Rattle.machine_apdu.specs.Shape.{shapeOf}
 use Rattle.machine_apdu.specs.declared.Apdu.the-variants.{Good}
 use Rattle.machine_apdu.specs.declared.Frame.{Frame}
-use Rattle.machine_action.specs.Tests.{p1p2, idIn, orCurrent}
-use Rattle.machine_binary.specs.ReadBinary.{readNamed, readOffset}
-use Rattle.machine_binary.specs.UpdateBinary.{updateNamed}
+use Rattle.machine_action.specs.Tests.{p1p2, idIn}
 use Rattle.machine_dispatch.specs.Decide.{dataOf}
 use Rattle.machine_reply_fmm.specs.Report.{total, remaining, existing, reportData}
 use Rattle.machine_answer.specs.Outcome.{Outcome}
 use Rattle.machine.specs.Step.{step}
+use Rattle.promises.specs.Files.{isMeantByP2, Permitted, Inspected, Writes-to}
 use Rattle.promises.specs.Calls.{isPair}
 use Rattle.promises.specs.Promises.{dataIn}
 
@@ -65,7 +59,8 @@ pub record Obeyed (img : List ℕ) (s : Session) (cmd buf : List ℕ) (f : Frame
 -- the file's records are those of before and behind them the data field. The new record becomes the current one. [C13] [G4]
 pub record Appended (img : List ℕ) (s : Session) (cmd : List ℕ) (f : Frame) (o : Outcome) : Type 0 where
   pub rule : Rule
-  pub file : resolveRecord img s Append (orCurrent (f .header .p2 / 8)) ≡ RecordAt rule
+  pub meant : isMeantByP2 s (f .header .p2 / 8) (RecordFile rule) ≡ true
+  pub permitted : Permitted s Append rule
   pub records : recordsOf (o .image) (rule .kind) ≡ recordsOf img (rule .kind) ++ (dataOf cmd ∷ [])
   pub only : Only (rule .kind) img (o .image)
   pub current : o .answer .session ≡ placed s (OnRecord (rule .id) (length (recordsOf img (rule .kind)) + 1))
@@ -82,7 +77,9 @@ pub record Updated (img : List ℕ) (s : Session) (cmd : List ℕ) (f : Frame) (
   pub number : ℕ
   pub offset : List ℕ
   pub bytes : List ℕ
-  pub file : resolveBiometrics img s (updateNamed (p1p2 f)) ≡ BiometricsAt number
+  -- P1-P2 is the file's id, and 0000 means the current file
+  pub of-current : p1p2 f ≡ 0 → Writes-to img s Current number
+  pub of-id : (p1p2 f ≡ 0 → ⊥) → Writes-to img s (Id (p1p2 f)) number
   pub writes : dataOf cmd ≡ updateData offset bytes
   pub sized : UpdateSized offset bytes
   pub stands : writtenBytes (body (o .image) (biometricsKind number)) ≡ splice (writtenBytes (body img (biometricsKind number))) (big offset) bytes
@@ -104,7 +101,7 @@ Update-done =
 -- the current file is Activated, and nothing else of it changes [C13] [A2]
 pub record Activated (img : List ℕ) (s : Session) (o : Outcome) : Type 0 where
   pub number : ℕ
-  pub file : resolveBiometrics img s Current ≡ BiometricsAt number
+  pub of-current : Writes-to img s Current number
   pub active : state (body (o .image) (biometricsKind number)) ≡ 1
   pub written-kept : written (body (o .image) (biometricsKind number)) ≡ written (body img (biometricsKind number))
   pub content-kept : writtenBytes (body (o .image) (biometricsKind number)) ≡ writtenBytes (body img (biometricsKind number))
@@ -120,9 +117,12 @@ Activate-done = (img : List ℕ) (s : Session) (cmd buf : List ℕ) (f : Frame) 
 -- the file's bytes from the offset on: at most Ne, at most 2,048, at most to the file's end. The file becomes the current one. [C13] [Y5]
 pub record Fetched (img : List ℕ) (s : Session) (f : Frame) (o : Outcome) : Type 0 where
   pub file : Transparent
-  pub reached : resolveTransparent img s (readNamed f) ≡ TransparentAt file
-  pub inside : readOffset f < length (fileBytes img file)
-  pub told : dataIn o ≡ part (fileBytes img file) (readOffset f) (min (f .ne) (min 2048 (length (fileBytes img file) - readOffset f)))
+  pub offset : ℕ
+  -- P1-P2 is an offset in the current file; or P1 from 80 on has a short id in its five low bits, and P2 is the offset
+  pub of-current : f .header .p1 < 0x80 → Inspected img s Current (TransparentFile file) × (offset ≡ p1p2 f)
+  pub of-short : 0x80 ≤ f .header .p1 → Inspected img s (Short (f .header .p1 % 0x20)) (TransparentFile file) × (offset ≡ f .header .p2)
+  pub inside : offset < length (fileBytes img file)
+  pub told : dataIn o ≡ part (fileBytes img file) offset (min (f .ne) (min 2048 (length (fileBytes img file) - offset)))
   pub image-kept : o .image ≡ img
   pub current : o .answer .session ≡ setFile s (TransparentFile file)
 
@@ -139,7 +139,7 @@ pub record Selected (img : List ℕ) (s : Session) (cmd : List ℕ) (f : Frame) 
   pub by-aid : f .header .p1 ≡ 0x04
       → (a : ℕ) × (aidOf (dataOf cmd) ≡ Application a) × (present img a ≡ true) × (flagged (s .rights) a ≡ true) × (o .answer .session ≡ entered s a)
   pub by-id : f .header .p1 ≡ 0x02
-      → (file : File) × (length (dataOf cmd) ≡ 2) × (resolveFile img s (Id (idIn (dataOf cmd))) ≡ FileAt file) × (o .answer .session ≡ placed s (OnFile (idOf file)))
+      → (file : File) × (length (dataOf cmd) ≡ 2) × Inspected img s (Id (idIn (dataOf cmd))) file × (o .answer .session ≡ placed s (OnFile (idOf file)))
   pub by-master : f .header .p1 ≡ 0x00 → (length (dataOf cmd) ≡ 2) × (idIn (dataOf cmd) ≡ 0x3F00) × (o .answer .session ≡ entered s 0)
   pub image-kept : o .image ≡ img
   pub nothing-told : o .answer .length ≡ 2
@@ -164,7 +164,7 @@ pub record Reported (img : List ℕ) (s : Session) (cmd : List ℕ) (f : Frame) 
   pub named : Named
   pub of-current : f .header .p1 ≡ 0 → named ≡ Current
   pub of-named : (f .header .p1 ≡ 0 → ⊥) → Referred (dataOf cmd) named
-  pub reached : resolveFile img s named ≡ FileAt file
+  pub reached : Inspected img s named file
   pub told : dataIn o ≡ reportData (f .header .p2) (total img file) (remaining img file) (existing img file)
   pub image-kept : o .image ≡ img
   pub current : o .answer .session ≡ setFile s file

@@ -1,5 +1,6 @@
 -- The three promises: calls as data, and what is promised of them.
 pub mod Words
+pub mod Files
 pub mod Calls
 pub mod Matches
 pub mod Promises

@@ -93,7 +93,7 @@ afterC img (c ∷ cs) = afterC (afterCallC img c) cs
 -- what a call adds to the records of a file, as its result tells it [X8]
 unfoldable pub addedC : ℕ → List ℕ → CCall → List (List ℕ)
 addedC k img (OpenC rights ses) = []
-addedC k img (CommandC ses cmd buf) = addedBy k img (sessionIn ses) cmd (statusIn (called img ses cmd buf .result)) (shapeOf cmd)
+addedC k img (CommandC ses cmd buf) = addedBy k (sessionIn ses) cmd (statusIn (called img ses cmd buf .result)) (shapeOf cmd)
 addedC k img (MoveC list t) = []
 
 -- [X8]
@@ -169,7 +169,7 @@ C-reads-history =
     → shapeOf cmd ≡ Good f
     → isPair f 0x00 0xB2 ≡ true
     → statusIn (called (afterC img calls) ses cmd buf .result) ≡ 0x9000
-    → Reads (afterC img calls) (sessionIn ses) f (λ k. historyC k img calls) (seen (called (afterC img calls) ses cmd buf))
+    → Reads (sessionIn ses) f (λ k. historyC k img calls) (seen (called (afterC img calls) ses cmd buf))
 
 -- ---- 3. "that a search leaves none out?"
 

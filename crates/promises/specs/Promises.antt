@@ -13,22 +13,18 @@ use Rattle.store_kinds.specs.Biometrics.{state, written, writtenBytes}
 use Rattle.store_kinds.specs.Rules.{isBiometrics}
 use Rattle.store_image.specs.Image.{has, wellFormed, body, recordsOf}
 use Rattle.store_kinds.specs.declared.rules.Rule.{Rule}
+use Rattle.store_files.specs.declared.File.the-variants.{RecordFile}
 use Rattle.objects_templates.specs.Search.{SearchFields, searchData, SearchSized}
 use Rattle.machine_session.specs.Verdict.{verdictNumber}
 use Rattle.machine_session.specs.Session.{opened, sessionFits}
-use Rattle.machine_session.specs.Resolve.{resolveRecord}
+use Rattle.machine_session.specs.declared.Place.the-variants.{OnRecord}
 use Rattle.machine_session.specs.declared.Session.{Session}
-use Rattle.machine_session.specs.declared.Verdict.the-variants.{Accepted}
 use Rattle.machine_session.specs.declared.Access.the-variants.{Read}
-use Rattle.machine_session.specs.declared.RecordNumber.the-variants.{Number}
-use Rattle.machine_session.specs.declared.ResolvedRecord.the-variants.{RecordAt}
 use Rattle.machine_apdu.specs.Shape.{shapeOf}
 use Rattle.machine_apdu.specs.declared.Apdu.the-variants.{Good}
 use Rattle.machine_apdu.specs.declared.Frame.{Frame}
 use Rattle.machine_apdu.specs.declared.Header.{Header}
-use Rattle.machine_action.specs.Tests.{allLe, orCurrent}
-use Rattle.machine_record.specs.ReadRecord.{recordNamed}
-use Rattle.machine_record.specs.SearchRecord.{searchNamed}
+use Rattle.machine_action.specs.Tests.{allLe}
 use Rattle.machine_dispatch.specs.Decide.{dataOf}
 use Rattle.machine_reply_record.specs.Joined.{recordsData}
 use Rattle.machine_reply_search.specs.Found.{foundData}
@@ -43,6 +39,7 @@ use Rattle.store_move.specs.declared.Moved.{Moved}
 use Rattle.store_move.specs.declared.Moved.the-variants.{Image, Refused}
 use Rattle.store_move_laws.specs.Same.{heads, FreeZero}
 use Rattle.promises.specs.Words.{words}
+use Rattle.promises.specs.Files.{isMeantByP2, isMeantBySearch, Permitted}
 use Rattle.promises.specs.Calls.{Call, after, isPair, history}
 use Rattle.promises.specs.Matches.{Matches}
 
@@ -120,11 +117,15 @@ dataIn o = take (o .answer .length - 2) (o .buffer)
 
 -- READ RECORD of a file with the records rs: the number asked for is one of them, and the answer is that record, or the records from
 -- there to the last, joined and cut after 2,048 bytes [C9]
-pub record Reads (img : List ℕ) (s : Session) (f : Frame) (rs : ℕ → List (List ℕ)) (o : Outcome) : Type 0 where
+pub record Reads (s : Session) (f : Frame) (rs : ℕ → List (List ℕ)) (o : Outcome) : Type 0 where
   pub rule : Rule
   pub number : ℕ
-  pub file : resolveRecord img s Read (orCurrent (f .header .p2 / 8)) ≡ RecordAt rule
-  pub named : recordNamed s rule (f .header .p1) ≡ Number number
+  -- the file that P2 means, with the right to read it
+  pub meant : isMeantByP2 s (f .header .p2 / 8) (RecordFile rule) ≡ true
+  pub permitted : Permitted s Read rule
+  -- the number is P1, or where P1 is 00 the current record's
+  pub by-number : (f .header .p1 ≡ 0 → ⊥) → number ≡ f .header .p1
+  pub by-current : f .header .p1 ≡ 0 → s .place ≡ OnRecord (rule .id) number
   pub low : 1 ≤ number
   pub high : number ≤ length (rs (rule .kind))
   pub one : f .header .p2 % 8 ≡ 4 → dataIn o ≡ nth (rs (rule .kind)) number
@@ -138,7 +139,7 @@ Reads-history =
     → shapeOf cmd ≡ Good f
     → isPair f 0x00 0xB2 ≡ true
     → step (after img calls) s cmd buf .answer .status ≡ 0x9000
-    → Reads (after img calls) s f (λ k. history k img calls) (step (after img calls) s cmd buf)
+    → Reads s f (λ k. history k img calls) (step (after img calls) s cmd buf)
 
 -- ---- 3. "that a search leaves none out?"
 
@@ -154,11 +155,12 @@ pub record SearchCommand (cmd : List ℕ) (f : Frame) (x : SearchFields) : Type 
   pub writes : dataOf cmd ≡ searchData x
   pub sized : SearchSized x
 
--- a search that is accepted, well formed and permitted: its file reference means a record file that the session may read [C11]
+-- a search that is taken, well formed and permitted: its file reference means a record file that the session may read [C11]
 pub record Searching (img : List ℕ) (s : Session) (cmd buf : List ℕ) (f : Frame) (x : SearchFields) (r : Rule) : Type 0 where
-  pub accepted : verdictOn img s (length buf) ≡ Accepted
+  pub taken : verdictNumber (step img s cmd buf .answer .verdict) ≡ 0
   pub command : SearchCommand cmd f x
-  pub file : resolveRecord img s Read (searchNamed (x .file)) ≡ RecordAt r
+  pub meant : isMeantBySearch s (x .file) (RecordFile r) ≡ true
+  pub permitted : Permitted s Read r
 
 -- each number is above the one before it, and so stands once [C11]
 abbrev pub Ascending : ℕ → List ℕ → Type 0
@@ -204,7 +206,7 @@ abbrev pub Search-refused : Type 0
 Search-refused =
     (img : List ℕ) (s : Session) (cmd buf : List ℕ) (f : Frame)
     → AllBytes cmd
-    → verdictOn img s (length buf) ≡ Accepted
+    → verdictNumber (step img s cmd buf .answer .verdict) ≡ 0
     → shapeOf cmd ≡ Good f
     → f .header ≡ searchHeader
     → ((x : SearchFields) → dataOf cmd ≡ searchData x → SearchSized x → ⊥)
@@ -219,7 +221,7 @@ Stays-accepted =
     → wellFormed img ≡ true
     → sessionFits img s ≡ true
     → 2050 ≤ n
-    → verdictOn (after img calls) s n ≡ Accepted
+    → verdictNumber (verdictOn (after img calls) s n) ≡ 0
 
 -- the session that a command answers fits the image that it leaves [C14]
 abbrev pub Answer-fits : Type 0

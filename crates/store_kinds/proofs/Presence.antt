@@ -14,7 +14,7 @@ use Rattle.store_kinds.specs.Rules.{rules, ruleOf, allRules, there, pres
 use Rattle.store_kinds.specs.declared.rules.Key.{Key}
 use Rattle.store_kinds.specs.declared.rules.Rule.{Rule}
 use Rattle.store_kinds.specs.declared.rules.Ruled.the-variants.{Is}
-use Rattle.store_kinds.proofs.Table.{noRule, rules-cons, rules-end, allRules-found}
+use Rattle.store_kinds.proofs.Table.{noRule, rules-cons, rules-end, rule-listed, allRules-listed}
 
 module _ (has : ℕ → Bool) (a : ℕ) where
   pub presentBy-low : a < 1 → presentBy has a ≡ false
@@ -53,7 +53,7 @@ module _ (has : ℕ → Bool) (a : ℕ) where
 pub presentBy-has : (has : ℕ → Bool) (key : Key) (r : Rule) → ruleOf key ≡ Is r → presentBy has (r .application) ≡ true → has (r .kind) ≡ true
 unfolding presentBy ruleOf there
 presentBy-has has key r e p =
-    let t : there has (r .application) r ≡ true = allRules-found (there has (r .application)) key rules r (allOf-facts _ p .1 .1 .0) e .0 in
+    let t : there has (r .application) r ≡ true = allRules-listed (there has (r .application)) rules r (allOf-facts _ p .1 .1 .0) (rule-listed key r e) in
     simp (eq-eqb (r .application) (r .application) refl) at t
 
 -- tests that say the same of each kind say the same of each application

@@ -1,10 +1,12 @@
 -- The rule table: a look-up row by row finds what the definition finds, and each rule passes one computed test.
 -- Read before: specs/Rules.antt. Exports: `rules-cons`, `rules-end` (the rows one by one), `Looking` with its laws (a look-up),
--- `allRules-found` (a test of all rules holds of the one that a key finds), `Regular`, `rule-regular`, `rule-key`.
+-- `rule-listed`, `rule-key` (what a key finds stands in the table and has the key), `allRules-listed` (a test of all rules holds of each),
+-- `Regular`, `listed-regular`, `rule-regular`.
 use Prim.Native.Nat.{ℕ, _+_, _/_, _≤_, _<_}
 use mathlib.Core.Path.{_≡_, refl, sym, ap, _∙_}
 use mathlib.Core.Bool.{Bool, true, false}
-use mathlib.Core.List.{List, [], _∷_}
+use mathlib.Core.Logic.{⊎-elim}
+use mathlib.Core.List.{List, [], _∷_, List·Memᴰ, List·Memᴰ·head, List·Memᴰ·tail, List·Memᴰ·not-nil, List·Memᴰ·cases-cons}
 use native.Mathlib.Omega.{arith}
 use native.Mathlib.Numerals.{add-one}
 use lib.ListN.{getD, drop, drop-of-length-le}
@@ -62,15 +64,30 @@ module _ (key : Key) where
 
 -- ---- what holds of every rule of the table
 
--- a test that each rule of a table passes is passed by the one that a key finds, and the key finds it
-pub allRules-found : (p : Rule → Bool) (key : Key) (rs : List Rule) (r : Rule) → allRules p rs ≡ true → firstRule key rs ≡ Is r → (p r ≡ true) × (hasKey key r ≡ true)
-unfolding firstRule allRules
-allRules-found p key [] r a e = absurd (let z : _≡_ {A = ℕ} 0 1 = cc in omega arith)
-allRules-found p key (q ∷ rs) r a e =
+-- what a key finds in a table stands there, and has the key
+firstRule-found : (key : Key) (rs : List Rule) (r : Rule) → firstRule key rs ≡ Is r → List·Memᴰ r rs × (hasKey key r ≡ true)
+unfolding firstRule
+firstRule-found key [] r e = absurd (let z : _≡_ {A = ℕ} 0 1 = cc in omega arith)
+firstRule-found key (q ∷ rs) r e =
     by-cases (hasKey key q)
     (λ h. let f : Is q ≡ Is r = simp h at e in
-    let g : q ≡ r = cc in (ap p (sym g) ∙ and-left (p q) (allRules p rs) a, ap (hasKey key) (sym g) ∙ h))
-    (λ h. allRules-found p key rs r (and-right (p q) (allRules p rs) a) (simp h at e))
+    let g : r ≡ q = cc in (List·Memᴰ·head g, ap (hasKey key) g ∙ h))
+    (λ h. let f = firstRule-found key rs r (simp h at e) in (List·Memᴰ·tail (f .0), f .1))
+
+pub rule-listed : (key : Key) (r : Rule) → ruleOf key ≡ Is r → List·Memᴰ r rules
+unfolding ruleOf
+rule-listed key r e = firstRule-found key rules r e .0
+
+pub rule-key : (key : Key) (r : Rule) → ruleOf key ≡ Is r → hasKey key r ≡ true
+unfolding ruleOf
+rule-key key r e = firstRule-found key rules r e .1
+
+-- a test that each rule of a table passes is passed by each that stands there
+pub allRules-listed : (p : Rule → Bool) (rs : List Rule) (r : Rule) → allRules p rs ≡ true → List·Memᴰ r rs → p r ≡ true
+unfolding allRules
+allRules-listed p [] r a m = absurd (List·Memᴰ·not-nil m)
+allRules-listed p (q ∷ rs) r a m =
+    ⊎-elim (λ e. ap p e ∙ and-left (p q) (allRules p rs) a) (λ t. allRules-listed p rs r (and-right (p q) (allRules p rs) a) t) (List·Memᴰ·cases-cons m)
 
 isRule : Rule → Ruled → Bool
 isRule r Nothing = false
@@ -127,11 +144,11 @@ is-rule r (Is q) e =
     let z : rule (q .kind) (q .application) (q .id) (q .short) (q .longest) (q .most) ≡ rule (r .kind) (r .application) (r .id) (r .short) (r .longest) (r .most) = rw (k, a, i, s, l, m) in
     ap Is z
 
--- whatever a key finds is regular: one test, computed over the whole table
-pub rule-regular : (key : Key) (r : Rule) → ruleOf key ≡ Is r → Regular r
-unfolding ruleOf regular
-rule-regular key r e =
-    let t : regular r ≡ true = allRules-found regular key rules r whole e .0 in
+-- whatever stands in the table is regular: one test, computed over the whole of it
+pub listed-regular : (r : Rule) → List·Memᴰ r rules → Regular r
+unfolding regular
+listed-regular r m =
+    let t : regular r ≡ true = allRules-listed regular rules r whole m in
     let h = allOf-facts _ t in
     record {
       some = leb-true _ _ (h .0);
@@ -149,7 +166,6 @@ rule-regular key r e =
     whole : allRules regular rules ≡ true
     whole = unfold allRules regular isRule ruleOf firstRule rules allOf in refl
 
--- what a key finds has the key
-pub rule-key : (key : Key) (r : Rule) → ruleOf key ≡ Is r → hasKey key r ≡ true
-unfolding ruleOf
-rule-key key r e = allRules-found (λ q. true) key rules r (unfold allRules rules in refl) e .1
+-- and so is whatever a key finds
+pub rule-regular : (key : Key) (r : Rule) → ruleOf key ≡ Is r → Regular r
+rule-regular key r e = listed-regular r (rule-listed key r e)

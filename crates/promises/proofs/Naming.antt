@@ -1,0 +1,307 @@
+-- What steps 7 to 9 answer is the file that the command means: the machine's look-ups find what ../specs/Files.antt says (`record-meant` and
+-- its like), and a record file that is meant is found (`meant-record`). Read before: ../specs/Files.antt.
+use Prim.Native.Nat.{ℕ, _-_, _≤_}
+use mathlib.Core.Path.{_≡_, refl, sym, ap, ap₂, subst, _∙_}
+use mathlib.Core.Bool.{Bool, true, false, _||_}
+use mathlib.Core.List.{List, [], _∷_, List·Memᴰ}
+use native.Mathlib.Omega.{arith}
+use lib.ListN.{length, getD}
+use lib.Dec.{leb, eqb}
+use borrow.Author.Tests.{eqb-true, eq-eqb, not-true}
+use Rattle.base.specs.Choice.{ifElse, allOf}
+use Rattle.base.proofs.Cases.{by-cases, ifElse-ind, false-true, and-left, and-right, allOf-facts, allOf-accepted}
+use Rattle.store_kinds.specs.Rules.{biometrics, rules, ruleOf, presentBy, biometricsKind}
+use Rattle.store_kinds.specs.declared.rules.Rule.{Rule}
+use Rattle.store_kinds.specs.declared.rules.Ruled.{Ruled}
+use Rattle.store_kinds.specs.declared.rules.Ruled.the-variants.{Is, Nothing}
+use Rattle.store_kinds.specs.declared.rules.Key.{Key}
+use Rattle.store_kinds.specs.declared.rules.Key.the-variants.{Kind as ByKind, Id as ById, Short as ByShort}
+use Rattle.store_kinds.proofs.Table.{Regular, rule-key, rule-listed, listed-regular}
+use Rattle.store_kinds.proofs.Presence.{presentBy-has}
+use Rattle.store_image.specs.Image.{has, present}
+use Rattle.store_files.specs.Files.{ruled, biometricsById, masterBy, byId, byShort, idOf}
+use Rattle.store_files.specs.declared.Transparent.{Transparent}
+use Rattle.store_files.specs.declared.Transparent.the-variants.{Info, Dir, Biometrics}
+use Rattle.store_files.specs.declared.File.{File}
+use Rattle.store_files.specs.declared.File.the-variants.{RecordFile, TransparentFile}
+use Rattle.store_files.specs.declared.Lookup.{Lookup}
+use Rattle.store_files.specs.declared.Lookup.the-variants.{Known, NoFile}
+use Rattle.store_files.proofs.Meant.{Found, FileOk, byId-id}
+use Rattle.machine_session.specs.Session.{isCurrent, applicationFits, sessionFits}
+use Rattle.machine_session.specs.Resolve.{meantBy, meantAt, fileMeant, mayRecord, mayRead, mayInspect, activated, writable, recordBy, transparentBy, biometricsBy, fileBy, resolveRecord, resolveTransparent, resolveBiometrics, resolveFile}
+use Rattle.machine_session.specs.declared.Place.{Place}
+use Rattle.machine_session.specs.declared.Place.the-variants.{Nowhere, OnFile, OnRecord}
+use Rattle.machine_session.specs.declared.Session.{Session}
+use Rattle.machine_session.specs.declared.Named.{Named}
+use Rattle.machine_session.specs.declared.Named.the-variants.{Current, Short, Id}
+use Rattle.machine_session.specs.declared.Access.{Access}
+use Rattle.machine_session.specs.declared.Access.the-variants.{Read}
+use Rattle.machine_session.specs.declared.Meant.{Meant}
+use Rattle.machine_session.specs.declared.Meant.the-variants.{NotMeant, TheFile}
+use Rattle.machine_session.specs.declared.ResolvedRecord.{ResolvedRecord}
+use Rattle.machine_session.specs.declared.ResolvedRecord.the-variants.{RecordStop, RecordAt}
+use Rattle.machine_session.specs.declared.ResolvedTransparent.{ResolvedTransparent}
+use Rattle.machine_session.specs.declared.ResolvedTransparent.the-variants.{TransparentStop, TransparentAt}
+use Rattle.machine_session.specs.declared.ResolvedBiometrics.{ResolvedBiometrics}
+use Rattle.machine_session.specs.declared.ResolvedBiometrics.the-variants.{BiometricsStop, BiometricsAt}
+use Rattle.machine_session.specs.declared.ResolvedFile.{ResolvedFile}
+use Rattle.machine_session.specs.declared.ResolvedFile.the-variants.{FileStop, FileAt}
+use Rattle.machine_session.proofs.Steps.{inOrder-each, RecordOk, resolveRecord-wellFormed, FileResolved, BiometricsResolved, TransparentResolved}
+use Rattle.machine_action.specs.Tests.{idIn, orCurrent}
+use Rattle.machine_record.specs.SearchRecord.{searchNamed}
+use Rattle.promises.specs.Files.{homeOf, isShortOf, goesBy, isMeant, isMeantByP2, isMeantBySearch, isMeantRow, isMeantKind, Permitted, isThere, Inspected, Writes-to}
+
+-- ---- what a look-up finds is in the application, and has the id or the short id
+
+-- a file of the application a
+abbrev Home : ℕ → File → Type 0
+Home a f = eqb (homeOf f) a ≡ true
+
+home-master : (a i x y : ℕ) → eqb a 0 ≡ true → Found (Home a) (masterBy x y i)
+unfolding masterBy homeOf
+home-master a i x y e =
+    let z : eqb 0 a ≡ true = eq-eqb 0 a (sym (eqb-true a 0 e)) in
+    ifElse-ind (Found (Home a)) (eqb i x) (λ h. z) (λ h. ifElse-ind (Found (Home a)) (eqb i y) (λ g. z) (λ g. tt))
+
+home-biometrics : (img : List ℕ) (a i : ℕ) → Found (Home a) (biometricsById img a i)
+unfolding biometricsById homeOf
+home-biometrics img a i =
+    let tests : List Bool = eqb a biometrics ∷ leb 0x0201 i ∷ leb i 0x0240 ∷ has img (biometricsKind (i - 0x0200)) ∷ [] in
+    ifElse-ind (Found (Home a)) (allOf tests) (λ h. eq-eqb biometrics a (sym (eqb-true a biometrics (allOf-facts tests h .0)))) (λ h. tt)
+
+-- what is found by a rule
+found-ruled : (P : File → Type 0) (img : List ℕ) (key : Key) (other : Lookup) → ((r : Rule) → ruleOf key ≡ Is r → P (RecordFile r)) → Found P other → Found P (ruled img (ruleOf key) other)
+found-ruled P img key other h o = go (ruleOf key) refl
+  where
+    go : (q : Ruled) → ruleOf key ≡ q → Found P (ruled img q other)
+    go Nothing e = o
+    go (Is r) e = ifElse-ind (Found P) (has img (r .kind)) (λ _. h r e) (λ _. tt)
+
+byId-home : (img : List ℕ) (a i : ℕ) → Found (Home a) (byId img a i)
+unfolding byId homeOf
+byId-home img a i =
+    ifElse-ind (Found (Home a)) (eqb a 0) (home-master a i 0x2F01 0x2F00)
+    (λ _. found-ruled (Home a) img (ById a i) (biometricsById img a i) (λ r e. and-left (eqb (r .application) a) (eqb (r .id) i) (rule-key (ById a i) r e)) (home-biometrics img a i))
+
+byShort-home : (img : List ℕ) (a x : ℕ) → Found (Home a) (byShort img a x)
+unfolding byShort homeOf
+byShort-home img a x =
+    ifElse-ind (Found (Home a)) (eqb a 0) (home-master a x 0x01 0x1E)
+    (λ _. found-ruled (Home a) img (ByShort a x) NoFile (λ r e. and-left (eqb (r .application) a) (eqb (r .short) x) (rule-key (ByShort a x) r e)) tt)
+
+abbrev Shorted : ℕ → File → Type 0
+Shorted x f = isShortOf f x ≡ true
+
+byShort-short : (img : List ℕ) (a x : ℕ) → Found (Shorted x) (byShort img a x)
+unfolding byShort masterBy isShortOf
+byShort-short img a x =
+    ifElse-ind (Found (Shorted x)) (eqb a 0)
+    (λ _. ifElse-ind (Found (Shorted x)) (eqb x 0x01) (λ h. h) (λ _. ifElse-ind (Found (Shorted x)) (eqb x 0x1E) (λ h. h) (λ _. tt)))
+    (λ _. found-ruled (Shorted x) img (ByShort a x) NoFile (λ r e. and-right (eqb (r .application) a) (eqb (r .short) x) (rule-key (ByShort a x) r e)) tt)
+
+-- ---- step 7
+
+abbrev Means : Session → Named → Meant → Type 0
+Means s n (NotMeant w) = Unit {0}
+Means s n (TheFile f) = isMeant s n f ≡ true
+
+looked : (s : Session) (n : Named) (l : Lookup) → Found (Home (s .application)) l → Found (λ f. goesBy s f n ≡ true) l → Means s n (meantBy l)
+unfolding isMeant
+looked s n (Known f) h g = allOf-accepted _ (h, (g, tt))
+looked s n NoFile h g = tt
+
+found-map : {P Q : File → Type 0} (l : Lookup) → ((f : File) → P f → Q f) → Found P l → Found Q l
+found-map (Known f) h p = h f p
+found-map NoFile h p = tt
+
+module _ (img : List ℕ) (s : Session) where
+  fileMeant-means : (n : Named) → Means s n (fileMeant img s n)
+  unfolding fileMeant isCurrent
+  fileMeant-means Current = at (s .place) refl
+    where
+      current : (p : Place) (i : ℕ) → s .place ≡ p → ((j : ℕ) → isCurrent p j ≡ eqb i j) → Means s Current (meantBy (byId img (s .application) i))
+      current p i e h =
+          looked s Current (byId img (s .application) i) (byId-home img (s .application) i)
+          (found-map (byId img (s .application) i) (λ f z. ap (λ (q : Place). isCurrent q (idOf f)) e ∙ h (idOf f) ∙ eq-eqb i (idOf f) (sym z)) (byId-id img (s .application) i))
+
+      at : (p : Place) → s .place ≡ p → Means s Current (meantAt img (s .application) p)
+      at Nowhere e = tt
+      at (OnFile i) e = current (OnFile i) i e (λ j. refl)
+      at (OnRecord i n) e = current (OnRecord i n) i e (λ j. refl)
+  fileMeant-means (Short x) = looked s (Short x) (byShort img (s .application) x) (byShort-home img (s .application) x) (byShort-short img (s .application) x)
+  fileMeant-means (Id i) =
+      looked s (Id i) (byId img (s .application) i) (byId-home img (s .application) i)
+      (found-map (byId img (s .application) i) (λ f z. eq-eqb (idOf f) i z) (byId-id img (s .application) i))
+
+  -- ---- steps 8 and 9
+
+  abbrev RecordMeans : Named → ResolvedRecord → Type 0
+  RecordMeans n (RecordStop w) = Unit {0}
+  RecordMeans n (RecordAt r) = isMeant s n (RecordFile r) ≡ true
+
+  abbrev TransparentMeans : Named → ResolvedTransparent → Type 0
+  TransparentMeans n (TransparentStop w) = Unit {0}
+  TransparentMeans n (TransparentAt t) = isMeant s n (TransparentFile t) ≡ true
+
+  abbrev BiometricsMeans : Named → ResolvedBiometrics → Type 0
+  BiometricsMeans n (BiometricsStop w) = Unit {0}
+  BiometricsMeans n (BiometricsAt k) = isMeant s n (TransparentFile (Biometrics k)) ≡ true
+
+  abbrev FileMeans : Named → ResolvedFile → Type 0
+  FileMeans n (FileStop w) = Unit {0}
+  FileMeans n (FileAt f) = isMeant s n f ≡ true
+
+  pub record-meant : (x : Access) (n : Named) (r : Rule) → resolveRecord img s x n ≡ RecordAt r → isMeant s n (RecordFile r) ≡ true
+  unfolding resolveRecord
+  record-meant x n r e = subst (RecordMeans n) e (go (fileMeant img s n) (fileMeant-means n))
+    where
+      go : (m : Meant) → Means s n m → RecordMeans n (recordBy s x m)
+      go (NotMeant w) h = tt
+      go (TheFile (TransparentFile t)) h = tt
+      go (TheFile (RecordFile q)) h = ifElse-ind (RecordMeans n) (mayRecord s x q) (λ _. h) (λ _. tt)
+
+  -- and one of the table
+  pub record-listed : (x : Access) (n : Named) (r : Rule) → resolveRecord img s x n ≡ RecordAt r → List·Memᴰ r rules
+  record-listed x n r e = rule-listed (ByKind (r .kind)) r (subst (RecordOk img s x) e (resolveRecord-wellFormed img s x n) .file .ok .by-kind)
+
+  pub record-permitted : (x : Access) (n : Named) (r : Rule) → resolveRecord img s x n ≡ RecordAt r → Permitted s x r
+  record-permitted x n r e = record { listed = record-listed x n r e; right = subst (RecordOk img s x) e (resolveRecord-wellFormed img s x n) .allowed }
+
+  pub transparent-meant : (n : Named) (t : Transparent) → resolveTransparent img s n ≡ TransparentAt t → isMeant s n (TransparentFile t) ≡ true
+  unfolding resolveTransparent
+  transparent-meant n t e = subst (TransparentMeans n) e (go (fileMeant img s n) (fileMeant-means n))
+    where
+      go : (m : Meant) → Means s n m → TransparentMeans n (transparentBy img s m)
+      go (NotMeant w) h = tt
+      go (TheFile (RecordFile q)) h = tt
+      go (TheFile (TransparentFile u)) h = ifElse-ind (TransparentMeans n) (mayRead img s u) (λ _. h) (λ _. tt)
+
+  pub biometrics-meant : (n : Named) (k : ℕ) → resolveBiometrics img s n ≡ BiometricsAt k → isMeant s n (TransparentFile (Biometrics k)) ≡ true
+  unfolding resolveBiometrics writable
+  biometrics-meant n k e = subst (BiometricsMeans n) e (go (fileMeant img s n) (fileMeant-means n))
+    where
+      write : (t : Transparent) → isMeant s n (TransparentFile t) ≡ true → BiometricsMeans n (writable img s t)
+      write Info h = tt
+      write Dir h = tt
+      write (Biometrics j) h = inOrder-each (BiometricsMeans n) _ _ (tt, (tt, tt)) (λ _. h)
+
+      go : (m : Meant) → Means s n m → BiometricsMeans n (biometricsBy img s m)
+      go (NotMeant w) h = tt
+      go (TheFile (RecordFile q)) h = tt
+      go (TheFile (TransparentFile u)) h = write u h
+
+  pub file-meant : (n : Named) (f : File) → resolveFile img s n ≡ FileAt f → isMeant s n f ≡ true
+  unfolding resolveFile
+  file-meant n f e = subst (FileMeans n) e (go (fileMeant img s n) (fileMeant-means n))
+    where
+      go : (m : Meant) → Means s n m → FileMeans n (fileBy img s m)
+      go (NotMeant w) h = tt
+      go (TheFile g) h = ifElse-ind (FileMeans n) (mayInspect img s g) (λ _. h) (λ _. tt)
+
+  -- what steps 7 to 9 answer of a file that is read, and of one that is written
+
+  is-there : (f : File) → FileOk img f → isThere img f ≡ true
+  unfolding isThere
+  is-there (RecordFile r) h = h .stands
+  is-there (TransparentFile Info) h = refl
+  is-there (TransparentFile Dir) h = refl
+  is-there (TransparentFile (Biometrics n)) h = h .stands
+
+  pub file-inspected : (n : Named) (f : File) → resolveFile img s n ≡ FileAt f → FileResolved img s f → Inspected img s n f
+  file-inspected n f e h = record { meant = file-meant n f e; there = is-there f (h .file .ok); right = h .allowed }
+
+  pub transparent-inspected : (n : Named) (t : Transparent) → resolveTransparent img s n ≡ TransparentAt t → TransparentResolved img s t → Inspected img s n (TransparentFile t)
+  unfolding mayInspect
+  transparent-inspected n t e h = record { meant = transparent-meant n t e; there = is-there (TransparentFile t) (h .file .ok); right = h .allowed }
+
+  pub biometrics-writes : (n : Named) (m : ℕ) → resolveBiometrics img s n ≡ BiometricsAt m → BiometricsResolved img s m → Writes-to img s n m
+  biometrics-writes n m e h =
+      record { meant = biometrics-meant n m e; there = h .file .ok .stands; deactivated = not-true (activated img m) (h .not-activated); right = h .allowed }
+
+-- ---- by the bytes
+
+-- P2's short id
+pub p2-meant : (s : Session) (x : ℕ) (f : File) → isMeant s (orCurrent x) f ≡ true → isMeantByP2 s x f ≡ true
+unfolding orCurrent isMeantByP2
+p2-meant s x f h = by-cases (eqb x 0) (λ e. simp e (subst (λ (b : Bool). isMeant s (ifElse b Current (Short x)) f ≡ true) e h)) (λ e. simp e (subst (λ (b : Bool). isMeant s (ifElse b Current (Short x)) f ≡ true) e h))
+
+-- the reference of a search, both ways
+pub search-meant : (s : Session) (v : List ℕ) (f : File) → isMeantBySearch s v f ≡ isMeant s (searchNamed v) f
+unfolding searchNamed isMeantBySearch
+search-meant s v f = by-cases (eqb (length v) 1) (λ e. simp e) (λ e. simp e)
+
+-- ---- a record file that is meant is found
+
+module _ (s : Session) (r : Rule) (m : List·Memᴰ r rules) where
+  abbrev table : Regular r
+  table = listed-regular r m
+
+  home : (n : Named) → isMeant s n (RecordFile r) ≡ true → r .application ≡ s .application
+  unfolding isMeant homeOf
+  home n h = eqb-true _ _ (allOf-facts _ h .0)
+
+  goes : (n : Named) → isMeant s n (RecordFile r) ≡ true → goesBy s (RecordFile r) n ≡ true
+  unfolding isMeant
+  goes n h = allOf-facts _ h .1 .0
+
+  by-short : (x : ℕ) → isMeant s (Short x) (RecordFile r) ≡ true → ruleOf (ByShort (s .application) x) ≡ Is r
+  unfolding isShortOf
+  by-short x h = ap₂ (λ (a y : ℕ). ruleOf (ByShort a y)) (sym (home (Short x) h)) (sym (eqb-true _ _ (goes (Short x) h))) ∙ table .by-short
+
+  by-id : (i : ℕ) → r .application ≡ s .application → r .id ≡ i → ruleOf (ById (s .application) i) ≡ Is r
+  by-id i e z = ap₂ (λ (a y : ℕ). ruleOf (ById a y)) (sym e) (sym z) ∙ table .by-id
+
+  in-application : r .application ≡ s .application → eqb (s .application) 0 ≡ false
+  in-application e = by-cases (eqb (s .application) 0) (λ z. let y : s .application ≡ 0 = eqb-true (s .application) 0 z in let l = table .first in absurd (omega (arith, e, y, l))) (λ z. z)
+
+  -- a session that fits has the application, and so the file
+  pub stands : (img : List ℕ) → sessionFits img s ≡ true → r .application ≡ s .application → has img (r .kind) ≡ true
+  unfolding sessionFits applicationFits present
+  stands img h e =
+      let a = allOf-facts _ h .0 in
+      let p : presentBy (has img) (s .application) ≡ true = subst (λ (b : Bool). (b || presentBy (has img) (s .application)) ≡ true) (in-application e) a in
+      presentBy-has (has img) (ByKind (r .kind)) r (table .by-kind) (subst (λ (b : ℕ). presentBy (has img) b ≡ true) (sym e) p)
+
+  module _ (img : List ℕ) (fits : sessionFits img s ≡ true) (x : Access) (right : mayRecord s x r ≡ true) where
+    named-short : (y : ℕ) → isMeant s (Short y) (RecordFile r) ≡ true → resolveRecord img s x (Short y) ≡ RecordAt r
+    unfolding resolveRecord fileMeant byShort
+    named-short y h = simp (in-application (home (Short y) h), by-short y h, stands img fits (home (Short y) h), right)
+
+    named-id : (i : ℕ) → isMeant s (Id i) (RecordFile r) ≡ true → resolveRecord img s x (Id i) ≡ RecordAt r
+    unfolding resolveRecord fileMeant byId idOf
+    named-id i h = simp (in-application (home (Id i) h), by-id i (home (Id i) h) (eqb-true _ _ (goes (Id i) h)), stands img fits (home (Id i) h), right)
+
+    pub search-resolved : (v : List ℕ) → isMeantBySearch s v (RecordFile r) ≡ true → resolveRecord img s x (searchNamed v) ≡ RecordAt r
+    unfolding searchNamed isMeantBySearch
+    search-resolved v h = by-cases (eqb (length v) 1) (λ e. simp e (named-short (getD v 0 0) (subst (λ (b : Bool). ifElse b (isMeant s (Short (getD v 0 0)) (RecordFile r)) (isMeant s (Id (idIn v)) (RecordFile r)) ≡ true) e h))) (λ e. simp e (named-id (idIn v) (subst (λ (b : Bool). ifElse b (isMeant s (Short (getD v 0 0)) (RecordFile r)) (isMeant s (Id (idIn v)) (RecordFile r)) ≡ true) e h)))
+
+-- ---- P2 means one record file only
+
+one-current : (p : Place) (i j : ℕ) → isCurrent p i ≡ true → isCurrent p j ≡ true → i ≡ j
+unfolding isCurrent
+one-current Nowhere i j a b = false-true a
+one-current (OnFile k) i j a b = sym (eqb-true k i a) ∙ eqb-true k j b
+one-current (OnRecord k n) i j a b = sym (eqb-true k i a) ∙ eqb-true k j b
+
+one-meant : (s : Session) (x : ℕ) (q r : Rule) → List·Memᴰ q rules → List·Memᴰ r rules → isMeantByP2 s x (RecordFile q) ≡ true → isMeantByP2 s x (RecordFile r) ≡ true → Is q ≡ Is r
+unfolding isMeantByP2 idOf
+one-meant s x q r a b =
+    by-cases (eqb x 0)
+    (λ e. simp e (λ g h. let i = one-current (s .place) (q .id) (r .id) (goes s q a Current g) (goes s r b Current h) in
+    sym (by-id s q a (q .id) (home s q a Current g) refl) ∙ ap (λ (y : ℕ). ruleOf (ById (s .application) y)) i ∙ by-id s r b (r .id) (home s r b Current h) refl))
+    (λ e. simp e (λ g h. sym (by-short s q a x g) ∙ by-short s r b x h))
+
+pub kind-meant : (s : Session) (x : ℕ) (r : Rule) → List·Memᴰ r rules → isMeantByP2 s x (RecordFile r) ≡ true → (k : ℕ) → isMeantKind s x k ≡ eqb (r .kind) k
+unfolding isMeantKind
+kind-meant s x r m h k =
+    by-cases (eqb (r .kind) k)
+    (λ e. ap (λ (j : ℕ). isMeantRow s x (ruleOf (ByKind j))) (sym (eqb-true _ _ e)) ∙ ap (isMeantRow s x) (listed-regular r m .by-kind) ∙ h ∙ sym e)
+    (λ e. go (ruleOf (ByKind k)) refl e ∙ sym e)
+  where
+    go : (y : Ruled) → ruleOf (ByKind k) ≡ y → eqb (r .kind) k ≡ false → isMeantRow s x y ≡ false
+    go Nothing e n = refl
+    go (Is q) e n =
+        by-cases (isMeantByP2 s x (RecordFile q))
+        (λ t. let z : q ≡ r = (let y = one-meant s x q r (rule-listed (ByKind k) q e) m t h in cc) in
+        false-true (sym n ∙ ap (λ (p : Rule). eqb (p .kind) k) (sym z) ∙ rule-key (ByKind k) q e))
+        (λ t. t)
