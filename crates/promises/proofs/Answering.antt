@@ -1,28 +1,25 @@
 -- The data of an answer, and what an accepted call is. Read ../specs/Promises.antt before. Exports `data-said`, `step-accepted`,
--- `taken-accepted`, `accepted-taken`, `accepted-room`, `accepted-facts`, `status-accepted`.
+-- `taken-accepted`, `accepted-room`, `accepted-facts`, `status-accepted`.
 use Prim.Native.Nat.{ℕ, _+_, _-_, _≤_}
 use mathlib.Core.Path.{_≡_, refl, sym, ap, ap₂, subst, _∙_}
 use mathlib.Core.Bool.{true}
 use mathlib.Core.List.{List, _++_}
 use native.Mathlib.Omega.{arith}
 use lib.ListN.{length, take, length-append}
-use lib.Dec.{ltb, eqb}
+use lib.Dec.{ltb}
 use lib.Seq.{sets, take-take, take-append-seam}
 use Rattle.base.proofs.Runs.{put-accepted, part-sets}
 use Rattle.base.proofs.Cases.{ifElse-ind}
-use Rattle.store_image.specs.Image.{wellFormed, recordsOf}
+use Rattle.store_image.specs.Image.{wellFormed}
 use Rattle.machine_session.specs.Session.{sessionFits}
 use Rattle.machine_session.specs.Verdict.{refusalNumber, verdictNumber, verdict}
 use Rattle.machine_session.specs.declared.Session.{Session}
 use Rattle.machine_session.specs.declared.Refusal.the-variants.{ShortBuffer, BadImage, BadRights, BadSession}
 use Rattle.machine_session.specs.declared.Verdict.{Verdict}
 use Rattle.machine_session.specs.declared.Verdict.the-variants.{Accepted, Refused}
-use Rattle.machine_record.specs.SearchRecord.{searchStatus}
 use Rattle.machine_dispatch.specs.Decide.{decide, dataOf}
-use Rattle.machine_action.specs.declared.Action.{Action}
-use Rattle.machine_action.specs.declared.Action.the-variants.{Status, SelectApplication, SelectFile, ReadBinary, UpdateBinary, Activate, AppendRecord, ReadRecord, SearchRecord, Report}
-use Rattle.machine_answer.specs.Outcome.{Outcome, word, says}
-use Rattle.machine.specs.Effects.{searched, done}
+use Rattle.machine_answer.specs.Outcome.{word, says}
+use Rattle.machine.specs.Effects.{done}
 use Rattle.machine.specs.Step.{verdictOn, stepBy, step}
 use Rattle.machine.proofs.Accepting.{Known, verdict-accepted}
 use Rattle.promises.specs.Promises.{dataIn}
@@ -55,26 +52,6 @@ taken-accepted img s cmd buf e = go (verdictOn img s (length buf)) e
     go (Refused BadImage) e = absurd (omega (arith, e))
     go (Refused BadRights) e = absurd (omega (arith, e))
     go (Refused BadSession) e = absurd (omega (arith, e))
-
--- and the other way round
-done-accepted : (x : Action) (img : List ℕ) (s : Session) (d buf : List ℕ) → done x img s d buf .answer .verdict ≡ Accepted
-unfolding done says searched
-done-accepted (Status w) img s d buf = refl
-done-accepted (SelectApplication a) img s d buf = refl
-done-accepted (SelectFile f) img s d buf = refl
-done-accepted (ReadBinary t o n) img s d buf = refl
-done-accepted (UpdateBinary n w) img s d buf = refl
-done-accepted (Activate n) img s d buf = refl
-done-accepted (AppendRecord r) img s d buf = refl
-done-accepted (ReadRecord r a b) img s d buf = refl
-done-accepted (SearchRecord r q ne) img s d buf = ifElse-ind (λ (o : Outcome). o .answer .verdict ≡ Accepted) (eqb (searchStatus (recordsOf img (r .kind)) d q ne) 0x9000) (λ _. refl) (λ _. refl)
-done-accepted (Report f p2) img s d buf = refl
-
-pub accepted-taken : (img : List ℕ) (s : Session) (cmd buf : List ℕ) → verdictOn img s (length buf) ≡ Accepted → verdictNumber (step img s cmd buf .answer .verdict) ≡ 0
-accepted-taken img s cmd buf e =
-    ap (λ (o : Outcome). verdictNumber (o .answer .verdict)) (step-accepted img s cmd buf e)
-    ∙ ap verdictNumber (done-accepted (decide img s cmd) img s (dataOf cmd) buf)
-    ∙ (unfold verdictNumber in refl)
 
 pub accepted-room : (img : List ℕ) (s : Session) (buf : List ℕ) → verdictOn img s (length buf) ≡ Accepted → 2050 ≤ length buf
 accepted-room img s buf e = subst (Known img (length buf)) e (verdict-accepted img (sessionFits img s) (length buf)) .1

@@ -33,7 +33,7 @@ use Rattle.store_move.specs.declared.Moved.{Moved}
 use Rattle.store_move.specs.declared.Moved.the-variants.{Image, Refused as MoveRefused}
 use Rattle.store_move.proofs.Moves.{moveRefusalNumber-listed, moveRefusalNumber-some, moveCard-numbered}
 use Rattle.promises.specs.Calls.{Call, Open, Command, Move, imageAfterMove, afterCall, after, addedBy, added, additions, history}
-use Rattle.promises.specs.Promises.{Whole, Kept, Answered, Reads, Searching, Names, MovedCard}
+use Rattle.promises.specs.Promises.{Whole, Kept, Answered, Reads, Names, MovedCard}
 use Rattle.promises.specs.Linked.{refusalIn, lengthIn, statusIn, movedIn, verdictBy, seen, CCall, OpenC, CommandC, MoveC, imageAfterMoveC, afterCallC, afterC, addedC, additionsC, historyC, C-sees, MalformedC, C-malformed, KeptC, C-says-no, C-gets-word, C-holds, C-number-kept, C-reads-history, C-leaves-none-out, C-opens, MovedC, C-moves}
 use Rattle.promises.proofs.Keeping.{put-rest, step-kept}
 use Rattle.promises.proofs.Saying.{gets-word, step-status}
@@ -360,9 +360,13 @@ c-reads-history img cs ses cmd buf f o b e p w =
     (subst (λ (rs : ℕ → List (List ℕ)). Reads s f rs (step old s cmd buf)) (λ i k. sym (history-same k img cs) i) h)
 
 pub c-leaves-none-out : C-leaves-none-out
-c-leaves-none-out img cs ses cmd buf f x r o b y z =
+c-leaves-none-out img cs ses cmd buf f x r o b t z =
     let s = sessionIn ses in
-    let h = leaves-none-out img (meanings cs) s cmd buf f x r o (subst (λ (l : List ℕ). Searching l s cmd buf f x r) (after-same img cs) z) in
+    let a = after-same img cs in
+    let old = after img (meanings cs) in
+    let y = accepted-session (afterC img cs) ses cmd buf t in
+    let u : verdictNumber (step old s cmd buf .answer .verdict) ≡ 0 = ap (λ (l : List ℕ). verdictNumber (step l s cmd buf .answer .verdict)) (sym a) ∙ sym (refusal-seen (afterC img cs) ses cmd buf y b) ∙ t in
+    let h = leaves-none-out img (meanings cs) s cmd buf f x r o u z in
     subst (Names (historyC (r .kind) img cs) x (f .ne)) (seen-same img cs ses cmd buf b y)
     (subst (λ (rs : List (List ℕ)). Names rs x (f .ne) (step (after img (meanings cs)) s cmd buf)) (sym (history-same (r .kind) img cs)) h)
 

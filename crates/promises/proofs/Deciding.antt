@@ -48,7 +48,7 @@ use Rattle.machine.specs.Effects.{done}
 use Rattle.machine.specs.Step.{verdictOn, stepBy, step}
 use Rattle.promises.specs.Calls.{isPair}
 use Rattle.promises.specs.Promises.{SearchCommand, Searching, Only-searches, Search-refused}
-use Rattle.promises.proofs.Answering.{step-accepted, accepted-facts, taken-accepted, accepted-taken}
+use Rattle.promises.proofs.Answering.{step-accepted, accepted-facts, taken-accepted}
 use Rattle.promises.proofs.Naming.{record-meant, record-permitted, search-meant, search-resolved}
 use Rattle.promises.proofs.Wording.{refusing-not, Worded, decide-word}
 
@@ -106,15 +106,17 @@ some-data x z =
 
 -- steps 7 to 9 answer the file of a search
 pub searching-resolved : (img : List ℕ) (s : Session) (cmd buf : List ℕ) (f : Frame) (x : SearchFields) (r : Rule)
-    → Searching img s cmd buf f x r
+    → verdictOn img s (length buf) ≡ Accepted
+    → Searching s cmd f x r
     → resolveRecord img s Read (searchNamed (x .file)) ≡ RecordAt r
-searching-resolved img s cmd buf f x r h =
-    search-resolved s r (h .permitted .listed) img (accepted-facts img s (length buf) (taken-accepted img s cmd buf (h .taken)) .1) Read (h .permitted .right) (x .file) (h .meant)
+searching-resolved img s cmd buf f x r a h =
+    search-resolved s r (h .permitted .listed) img (accepted-facts img s (length buf) a .1) Read (h .permitted .right) (x .file) (h .meant)
 
 pub search-decided-complete : (img : List ℕ) (s : Session) (cmd buf : List ℕ) (f : Frame) (x : SearchFields) (r : Rule)
-    → Searching img s cmd buf f x r
+    → verdictOn img s (length buf) ≡ Accepted
+    → Searching s cmd f x r
     → (q : Search) × (decide img s cmd ≡ SearchRecord r q (f .ne)) × Searches (dataOf cmd) q x
-search-decided-complete img s cmd buf f x r h =
+search-decided-complete img s cmd buf f x r a h =
     let c = h .command in
     let d = dataOf cmd in
     let k = search-complete x (c .sized) in
@@ -133,16 +135,15 @@ search-decided-complete img s cmd buf f x r h =
           ∙ passed img s f d t
           ∙ ap (searchBy img s (f .ne) d) (ap readSearch (c .writes) ∙ k .1)
           ∙ ap (λ (v : List ℕ). onRecord (resolveRecord img s Read (searchNamed v)) (searchOn q (f .ne))) (w .file-placed .is)
-          ∙ ap (λ (y : ResolvedRecord). onRecord y (searchOn q (f .ne))) (searching-resolved img s cmd buf f x r h),
+          ∙ ap (λ (y : ResolvedRecord). onRecord y (searchOn q (f .ne))) (searching-resolved img s cmd buf f x r a h),
       w,
     )
 
-pub search-decided-sound : (img : List ℕ) (s : Session) (cmd buf : List ℕ) (r : Rule) (q : Search) (ne : ℕ)
+pub search-decided-sound : (img : List ℕ) (s : Session) (cmd : List ℕ) (r : Rule) (q : Search) (ne : ℕ)
     → AllBytes cmd
-    → verdictOn img s (length buf) ≡ Accepted
     → decide img s cmd ≡ SearchRecord r q ne
-    → (f : Frame) × (x : SearchFields) × Searching img s cmd buf f x r × (ne ≡ f .ne) × Searches (dataOf cmd) q x
-search-decided-sound img s cmd buf r q ne b t e = go (shapeOf cmd) refl (subst (FromShape img s cmd (shapeOf cmd)) e (decide-from img s cmd))
+    → (f : Frame) × (x : SearchFields) × Searching s cmd f x r × (ne ≡ f .ne) × Searches (dataOf cmd) q x
+search-decided-sound img s cmd r q ne b e = go (shapeOf cmd) refl (subst (FromShape img s cmd (shapeOf cmd)) e (decide-from img s cmd))
   where
     -- the reference of the fields is that of the data
     here : (f : Frame) (x : SearchFields) → fileIn (part cmd (f .from) (f .lc)) q ≡ x .file → resolveRecord img s Read (searchNamed (fileIn (part cmd (f .from) (f .lc)) q)) ≡ RecordAt r
@@ -150,7 +151,7 @@ search-decided-sound img s cmd buf r q ne b t e = go (shapeOf cmd) refl (subst (
     here f x i e = ap (λ (l : List ℕ). resolveRecord img s Read (searchNamed l)) (sym i) ∙ e
 
     go : (a : Apdu) → shapeOf cmd ≡ a → FromShape img s cmd a (SearchRecord r q ne)
-        → (f : Frame) × (x : SearchFields) × Searching img s cmd buf f x r × (ne ≡ f .ne) × Searches (dataOf cmd) q x
+        → (f : Frame) × (x : SearchFields) × Searching s cmd f x r × (ne ≡ f .ne) × Searches (dataOf cmd) q x
     go Bad z h = let y : _≡_ {A = ℕ} 0 1 = cc in absurd (omega arith)
     go (Good f) z h =
         let d = data-is cmd f z in
@@ -164,7 +165,6 @@ search-decided-sound img s cmd buf r q ne b t e = go (shapeOf cmd) refl (subst (
           f,
           x,
           record {
-            taken = accepted-taken img s cmd buf t;
             command = record { shape = z; header = l; le = v .le; writes = w .written; sized = w .sized };
             meant = search-meant s (x .file) (RecordFile r) ∙ record-meant img s Read (searchNamed (x .file)) r (here f x (k .1 .file-placed .is) (h .at));
             permitted = record-permitted img s Read (searchNamed (x .file)) r (here f x (k .1 .file-placed .is) (h .at));
@@ -188,7 +188,7 @@ pub only-searches : Only-searches
 only-searches img s cmd buf f b e p w =
     let t = two-accepted img s cmd buf w in
     let u = step-accepted img s cmd buf t in
-    go t (decide img s cmd) refl
+    go (decide img s cmd) refl
     (subst (λ (o : Outcome). (o .answer .status ≡ 0x9000) ⊎ (o .answer .status ≡ 0x6282)) u w)
     (subst (λ (a : Apdu). FromShape img s cmd a (decide img s cmd)) e (decide-from img s cmd))
     (decide-word img s cmd)
@@ -203,23 +203,23 @@ only-searches img s cmd buf f b e p w =
     same-frame : (g : Frame) → shapeOf cmd ≡ Good g → g ≡ f
     same-frame g z = let y : Good g ≡ Good f = sym z ∙ e in cc
 
-    go : verdictOn img s (length buf) ≡ Accepted → (x : Action) → decide img s cmd ≡ x
+    go : (x : Action) → decide img s cmd ≡ x
         → (done x img s (dataOf cmd) buf .answer .status ≡ 0x9000) ⊎ (done x img s (dataOf cmd) buf .answer .status ≡ 0x6282)
         → From img s f (part cmd (f .from) (f .lc)) x → Worded x
-        → (x : SearchFields) × (r : Rule) × Searching img s cmd buf f x r
-    go t (Status v) z w h k =
+        → (x : SearchFields) × (r : Rule) × Searching s cmd f x r
+    go (Status v) z w h k =
         unfold done says in absurd (⊎-elim (refusing-not v 0x9000 k refl) (refusing-not v 0x6282 k refl) w)
-    go t (SelectApplication a) z w h k = other 0xA4 (h .0 .1) refl
-    go t (SelectFile g) z w h k = other 0xA4 (h .0 .1) refl
-    go t (ReadBinary u a n) z w h k = other 0xB0 (h .0 .1) refl
-    go t (UpdateBinary n v) z w h k = other 0xD7 (h .0 .1) refl
-    go t (Activate n) z w h k = other 0x44 (h .0 .1) refl
-    go t (AppendRecord r) z w h k = other 0xE2 (h .0 .1) refl
-    go t (ReadRecord r a n) z w h k = other 0xB2 (h .pair .1) refl
-    go t (SearchRecord r q ne) z w h k =
-        let y = search-decided-sound img s cmd buf r q ne b t z in
-        (y .1, r, subst (λ (g : Frame). Searching img s cmd buf g (y .1) r) (same-frame (y .0) (y .2 .command .shape)) (y .2))
-    go t (Report g p2) z w h k = other 0x5E (h .0 .1) refl
+    go (SelectApplication a) z w h k = other 0xA4 (h .0 .1) refl
+    go (SelectFile g) z w h k = other 0xA4 (h .0 .1) refl
+    go (ReadBinary u a n) z w h k = other 0xB0 (h .0 .1) refl
+    go (UpdateBinary n v) z w h k = other 0xD7 (h .0 .1) refl
+    go (Activate n) z w h k = other 0x44 (h .0 .1) refl
+    go (AppendRecord r) z w h k = other 0xE2 (h .0 .1) refl
+    go (ReadRecord r a n) z w h k = other 0xB2 (h .pair .1) refl
+    go (SearchRecord r q ne) z w h k =
+        let y = search-decided-sound img s cmd r q ne b z in
+        (y .1, r, subst (λ (g : Frame). Searching s cmd g (y .1) r) (same-frame (y .0) (y .2 .command .shape)) (y .2))
+    go (Report g p2) z w h k = other 0x5E (h .0 .1) refl
 
 pub search-refused : Search-refused
 search-refused img s cmd buf f b t e h n =

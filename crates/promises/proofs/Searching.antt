@@ -253,13 +253,13 @@ module _ (img : List ℕ) (s : Session) (d buf : List ℕ) (r : Rule) (q : Searc
       }
 
 pub leaves-none-out : Leaves-none-out
-leaves-none-out img calls s cmd buf f x r o z =
+leaves-none-out img calls s cmd buf f x r o t z =
     let now = after img calls in
     let h = calls-held img calls o in
-    let c = search-decided-complete now s cmd buf f x r z in
+    let a = taken-accepted now s cmd buf t in
+    let c = search-decided-complete now s cmd buf f x r a z in
     let q = c .0 in
-    let a = taken-accepted now s cmd buf (z .taken) in
-    let g : RecordResolved now s Read r = subst (RecordOk now s Read) (searching-resolved now s cmd buf f x r z) (resolveRecord-wellFormed now s Read (searchNamed (x .file))) in
+    let g : RecordResolved now s Read r = subst (RecordOk now s Read) (searching-resolved now s cmd buf f x r a z) (resolveRecord-wellFormed now s Read (searchNamed (x .file))) in
     let u : step now s cmd buf ≡ searched now s (dataOf cmd) buf r q (f .ne) =
     step-accepted now s cmd buf a ∙ ap (λ (y : Action). done y now s (dataOf cmd) buf) (c .1) ∙ (unfold done in refl) in
     let e : recordsOf now (r .kind) ≡ history (r .kind) img calls = h .records (r .kind) (stored-records now r (g .file .ok)) in

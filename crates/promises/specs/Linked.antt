@@ -179,8 +179,8 @@ C-leaves-none-out =
     (img : List ℕ) (calls : List CCall) (ses cmd buf : List ℕ) (f : Frame) (x : SearchFields) (r : Rule)
     → wellFormed img ≡ true
     → AllBytes cmd
-    → isSession ses ≡ true
-    → Searching (afterC img calls) (sessionIn ses) cmd buf f x r
+    → refusalIn (called (afterC img calls) ses cmd buf .result) ≡ 0
+    → Searching (sessionIn ses) cmd f x r
     → Names (historyC (r .kind) img calls) x (f .ne) (seen (called (afterC img calls) ses cmd buf))
 
 -- ---- an opening: a session buffer under 25 bytes gets 4, after 3 is tested, and nothing is written there

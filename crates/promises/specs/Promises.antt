@@ -155,9 +155,8 @@ pub record SearchCommand (cmd : List ℕ) (f : Frame) (x : SearchFields) : Type 
   pub writes : dataOf cmd ≡ searchData x
   pub sized : SearchSized x
 
--- a search that is taken, well formed and permitted: its file reference means a record file that the session may read [C11]
-pub record Searching (img : List ℕ) (s : Session) (cmd buf : List ℕ) (f : Frame) (x : SearchFields) (r : Rule) : Type 0 where
-  pub taken : verdictNumber (step img s cmd buf .answer .verdict) ≡ 0
+-- a search that is well formed and permitted: its file reference means a record file that the session may read [C11]
+pub record Searching (s : Session) (cmd : List ℕ) (f : Frame) (x : SearchFields) (r : Rule) : Type 0 where
   pub command : SearchCommand cmd f x
   pub meant : isMeantBySearch s (x .file) (RecordFile r) ≡ true
   pub permitted : Permitted s Read r
@@ -183,12 +182,13 @@ pub record Names (rs : List (List ℕ)) (x : SearchFields) (ne : ℕ) (o : Outco
   pub none-complete : ((n : ℕ) → Matches rs x n → ⊥) → (o .answer .status ≡ 0x6282) × (o .answer .length ≡ 2)
   pub none-sound : o .answer .status ≡ 0x6282 → (n : ℕ) → Matches rs x n → ⊥
 
--- a search after any calls [C11]
+-- a search after any calls, which is not refused [C11]
 abbrev pub Leaves-none-out : Type 0
 Leaves-none-out =
     (img : List ℕ) (calls : List Call) (s : Session) (cmd buf : List ℕ) (f : Frame) (x : SearchFields) (r : Rule)
     → wellFormed img ≡ true
-    → Searching (after img calls) s cmd buf f x r
+    → verdictNumber (step (after img calls) s cmd buf .answer .verdict) ≡ 0
+    → Searching s cmd f x r
     → Names (history (r .kind) img calls) x (f .ne) (step (after img calls) s cmd buf)
 
 -- only such a command is answered as a search: one with CLA 00 and INS A2 that gets 9000 or 6282 is one [C12]
@@ -199,7 +199,7 @@ Only-searches =
     → shapeOf cmd ≡ Good f
     → isPair f 0x00 0xA2 ≡ true
     → (step img s cmd buf .answer .status ≡ 0x9000) ⊎ (step img s cmd buf .answer .status ≡ 0x6282)
-    → (x : SearchFields) × (r : Rule) × Searching img s cmd buf f x r
+    → (x : SearchFields) × (r : Rule) × Searching s cmd f x r
 
 -- a command with that header whose data is no such writing gets 6700 where Lc or Le is not as stated, of step 5, and else 6A80, of step 6 [C12]
 abbrev pub Search-refused : Type 0
