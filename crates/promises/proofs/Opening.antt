@@ -33,7 +33,7 @@ opening-opened c =
       number = ifElse-ind (λ (x : Verdict). List·Memᴰ (verdictNumber x) (0 ∷ 3 ∷ [])) (eqb (length c) 60)
           (λ _. List·Memᴰ·head refl)
           (λ _. List·Memᴰ·tail (List·Memᴰ·head refl));
-      taken = λ e. ap (λ (b : Bool). verdictNumber (ifElse b Accepted (Refused BadRights))) (eq-eqb _ _ e);
+      taken = λ e. (ap (λ (b : Bool). verdictNumber (ifElse b Accepted (Refused BadRights))) (eq-eqb _ _ e), refl);
       refused = λ n. let f = ne-eqb (length c) 60 n in (
         ap (λ (b : Bool). verdictNumber (ifElse b Accepted (Refused BadRights))) f,
         ap (λ (r : Rights). record { rights = r; application = 0; place = Nowhere })

@@ -76,13 +76,13 @@ pub record Answered (o : Outcome) : Type 0 where
 abbrev pub Gets-word : Type 0
 Gets-word = (img : List ℕ) (s : Session) (cmd buf : List ℕ) → AllBytes cmd → verdictNumber (step img s cmd buf .answer .verdict) ≡ 0 → Answered (step img s cmd buf)
 
--- an opening has length 0 and status 0. It takes 60 bytes, or is refused with number 3 and the session
--- that 60 zero bytes open [C6]
+-- an opening has length 0 and status 0. It takes 60 bytes and answers the session that they open; with any other number of bytes it is
+-- refused with number 3 and answers the session that 60 zero bytes open [C6]
 pub record Opened (rights : List ℕ) (a : Answer) : Type 0 where
   pub nothing : (a .length ≡ 0) × (a .status ≡ 0)
   -- an opening is refused with 3, or not at all
   pub number : List·Memᴰ (verdictNumber (a .verdict)) (0 ∷ 3 ∷ [])
-  pub taken : length rights ≡ 60 → verdictNumber (a .verdict) ≡ 0
+  pub taken : length rights ≡ 60 → (verdictNumber (a .verdict) ≡ 0) × (a .session ≡ opened rights)
   pub refused : (length rights ≡ 60 → ⊥) → (verdictNumber (a .verdict) ≡ 3) × (a .session ≡ opened (replicate 60 0))
 
 -- [C6]
