@@ -2,3 +2,4 @@
 pub mod Cases
 pub mod Runs
 pub mod Parts
+pub mod Determined

@@ -3,3 +3,4 @@ pub mod Elements
 pub mod Answers
 pub mod Laws
 pub mod Examples
+pub mod Determined
