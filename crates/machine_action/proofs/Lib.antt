@@ -1,2 +1,2 @@
--- Laws of this crate.
+-- What the contracts of this crate determine.
 pub mod Determined
