@@ -42,10 +42,10 @@ def functions():
 
 def proved(crate):
     """The functions of a crate that have their theorem, in a file that the crate's Lib.antt declares."""
-    folder = ROOT / 'crates' / crate / 'proofs'
-    if not (folder / 'Determined.antt').exists() or 'pub mod Determined\n' not in (folder / 'Lib.antt').read_text(encoding='utf-8'):
+    lib, text = (p.read_text(encoding='utf-8') if p.exists() else '' for p in
+                 [ROOT / 'crates' / crate / 'proofs' / name for name in ('Lib.antt', 'Determined.antt')])
+    if 'pub mod Determined\n' not in lib:
         return set()
-    text = (folder / 'Determined.antt').read_text(encoding='utf-8')
     cited = FROM_BASE.findall(text)
     meant = {name.strip() for name in cited[0].split(',')} if len(cited) == 1 else set()
     alias = {name: (kind, path) for owner, path, kind, name in USE.findall(text) if owner == crate}

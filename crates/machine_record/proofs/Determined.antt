@@ -20,4 +20,5 @@ pub search-record-determined : Determined search-record-kinds.ps search-record-k
 search-record-determined κs a e f p q i = ((p ∙ sym q) i, e .1)
 
 pub search-body-determined : Determined search-body-kinds.ps search-body-kinds.r search-body-reads.Post
-search-body-determined κs a e f p q i = (record { status = (p .0 ∙ sym (q .0)) i; hits = record { n = (p .1 ∙ sym (q .1)) i; numbers = (p .2 ∙ sym (q .2)) i } }, e .1)
+search-body-determined κs a e f p q i =
+    (record { status = (p .0 ∙ sym (q .0)) i; hits = record { n = (p .1 ∙ sym (q .1)) i; numbers = (p .2 ∙ sym (q .2)) i } }, e .1)
