@@ -1,4 +1,5 @@
--- Laws that the proofs of the other crates cite: of choices, of stored runs, of parts.
+-- Laws that the proofs of the other crates cite: of choices, of stored runs, of parts. `Determined` is about the contracts here.
 pub mod Cases
 pub mod Runs
 pub mod Parts
+pub mod Determined

@@ -4,3 +4,4 @@ pub mod Reaching
 pub mod Seeking
 pub mod Accepting
 pub mod Worked
+pub mod Determined

@@ -1,2 +1,3 @@
 -- Laws of an answer.
 pub mod Saying
+pub mod Determined

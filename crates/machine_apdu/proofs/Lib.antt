@@ -1,4 +1,5 @@
--- `Laws` is for the crates above, `Rows` for the functions here, `Examples` for a reader.
+-- `Laws` is for the crates above, `Rows` for the functions here, `Examples` for a reader. `Determined` is about the contracts.
 pub mod Rows
 pub mod Laws
 pub mod Examples
+pub mod Determined

@@ -1,2 +1,3 @@
 -- Laws of decisions.
 pub mod Allowing
+pub mod Determined

@@ -1,2 +1,3 @@
 -- Laws of a report.
 pub mod Reporting
+pub mod Determined

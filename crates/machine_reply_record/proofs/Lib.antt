@@ -1,2 +1,3 @@
 -- Laws of records joined.
 pub mod Joining
+pub mod Determined

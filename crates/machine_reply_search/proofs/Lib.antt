@@ -3,3 +3,4 @@ pub mod Searching
 pub mod Matching
 pub mod Listing
 pub mod Worked
+pub mod Determined

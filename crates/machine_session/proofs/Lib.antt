@@ -1,2 +1,3 @@
 -- Laws of sessions.
 pub mod Steps
+pub mod Determined

@@ -3,3 +3,4 @@ pub mod Occurring
 pub mod Windows
 pub mod Moving
 pub mod Clearing
+pub mod Determined

@@ -1,2 +1,3 @@
 -- From the machine's answer to what a caller gets.
 pub mod Calling
+pub mod Determined

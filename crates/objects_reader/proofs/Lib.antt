@@ -7,3 +7,4 @@ pub mod Heads
 pub mod Unique
 pub mod Exact
 pub mod Taking
+pub mod Determined

@@ -3,3 +3,4 @@ pub mod Answers
 pub mod References
 pub mod Updates
 pub mod Searches
+pub mod Determined

@@ -3,3 +3,4 @@ pub mod Numbers
 pub mod Writings
 pub mod Storing
 pub mod Sizes
+pub mod Determined

@@ -1,6 +1,5 @@
 -- The theorems: each proves the promise of its name in ../specs/Promises.antt, ../specs/Done.antt or ../specs/Linked.antt.
-use mathlib.Core.Path.{sym, _∙_}
-use Rattle.promises.specs.Promises.{Says-no, Gets-word, Opens, Holds, Number-kept, Reads-history, Leaves-none-out, Only-searches, Search-refused, Stays-accepted, Answer-fits, Opening-fits, One-outcome, One-opening, Session-bytes, Opening-bytes, Result-whole, Move-says-no, Move-done, Same-sizes, Move-twice, One-move, Move-whole}
+use Rattle.promises.specs.Promises.{Says-no, Gets-word, Opens, Holds, Number-kept, Reads-history, Leaves-none-out, Only-searches, Search-refused, Stays-accepted, Answer-fits, Opening-fits, Session-bytes, Opening-bytes, Result-whole, Move-says-no, Move-done, Same-sizes, Move-twice, Move-whole}
 use Rattle.promises.specs.Done.{Append-done, Update-done, Activate-done, Read-done, Select-done, Fmm-done}
 use Rattle.promises.specs.Linked.{C-sees, C-malformed, C-says-no, C-gets-word, C-holds, C-number-kept, C-reads-history, C-leaves-none-out, C-opens, C-moves}
 use Rattle.promises.proofs.Keeping.{step-kept}
@@ -54,12 +53,6 @@ answer-fits = fitting.answer-fits
 pub opening-fits : Opening-fits
 opening-fits = fitting.opening-fits
 
-pub one-outcome : One-outcome
-one-outcome img s cmd buf o p e f = e ∙ sym f
-
-pub one-opening : One-opening
-one-opening rights a b e f = e ∙ sym f
-
 pub session-bytes : Session-bytes
 session-bytes = linking.session-bytes
 
@@ -80,9 +73,6 @@ same-sizes = moving.same
 
 pub move-twice : Move-twice
 move-twice = moving.twice
-
-pub one-move : One-move
-one-move old list t m p a b e f = (e .0 ∙ sym (f .0), e .1 ∙ sym (f .1))
 
 pub move-whole : Move-whole
 move-whole = moveCard-numbered

@@ -35,7 +35,6 @@ use Rattle.machine_session_bytes.specs.Layout.{isSession, sessionIn}
 use Rattle.malquindo.specs.Face.{openSession, called}
 use Rattle.store_move.specs.Moving.{moveCard, moveCardInto, Numbered}
 use Rattle.store_move.specs.declared.MoveRefusal.{MoveRefusal}
-use Rattle.store_move.specs.declared.Moved.{Moved}
 use Rattle.store_move.specs.declared.Moved.the-variants.{Image, Refused}
 use Rattle.store_move_laws.specs.Same.{heads, FreeZero}
 use Rattle.promises.specs.Words.{words}
@@ -235,17 +234,7 @@ Answer-fits =
 abbrev pub Opening-fits : Type 0
 Opening-fits = (img rights : List ℕ) → sessionFits img (opening rights .session) ≡ true
 
--- ---- 5. Nothing is left open: two outcomes that meet the contract of the same call are equal
-
--- the contract of `machine::command` says of an outcome that it is `step`'s, and that of `machine::open` that the answer is `opening`'s [C1]
-abbrev pub One-outcome : Type 0
-One-outcome = (img : List ℕ) (s : Session) (cmd buf : List ℕ) (o p : Outcome) → o ≡ step img s cmd buf → p ≡ step img s cmd buf → o ≡ p
-
--- [C1]
-abbrev pub One-opening : Type 0
-One-opening = (rights : List ℕ) (a b : Answer) → a ≡ opening rights → b ≡ opening rights → a ≡ b
-
--- ---- 6. What a program in another language gets is all of it
+-- ---- 5. What a program in another language gets is all of it
 
 -- the bytes that `malquindo_command` leaves in the session's buffer are the session that the machine answers [X7]
 abbrev pub Session-bytes : Type 0
@@ -275,7 +264,7 @@ Result-whole =
     → isSession ses ≡ true
     → Whole (called img ses cmd buf .result) (step img (sessionIn ses) cmd buf .answer)
 
--- ---- 7. A card moves to a larger chip
+-- ---- 6. A card moves to a larger chip
 
 -- a move that is refused leaves the target as it was [M10]
 abbrev pub Move-says-no : Type 0
@@ -321,14 +310,6 @@ Move-twice =
     → moveCard old first (length t) ≡ Image n
     → moveCard (take n (moveCardInto old first t)) last (length u) ≡ Image m
     → (moveCard old last (length u) ≡ Image m) × (moveCardInto old last u ≡ moveCardInto (take n (moveCardInto old first t)) last u)
-
--- nothing is left open: two moves that meet the contract of the same call are equal [C1]
-abbrev pub One-move : Type 0
-One-move =
-    (old list t : List ℕ) (m p : Moved) (a b : List ℕ)
-    → (m ≡ moveCard old list (length t)) × (a ≡ moveCardInto old list t)
-    → (p ≡ moveCard old list (length t)) × (b ≡ moveCardInto old list t)
-    → (m ≡ p) × (a ≡ b)
 
 -- the new image's length has room in the 32 bits of the result of `malquindo_move` [X6]
 abbrev pub Move-whole : Type 0

@@ -3,3 +3,4 @@ pub mod Entries
 pub mod Aids
 pub mod Contents
 pub mod Meant
+pub mod Determined

@@ -5,3 +5,4 @@ pub mod Splicing
 pub mod Files
 pub mod Lending
 pub mod Laws
+pub mod Determined

@@ -3,3 +3,4 @@ pub mod Updating
 pub mod Table
 pub mod Presence
 pub mod ByKind
+pub mod Determined

@@ -6,3 +6,4 @@ pub mod Fitting
 pub mod Clearing
 pub mod Writing
 pub mod Moves
+pub mod Determined

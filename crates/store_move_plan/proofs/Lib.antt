@@ -3,3 +3,4 @@ pub mod Rows
 pub mod Search
 pub mod Empty
 pub mod Blank
+pub mod Determined

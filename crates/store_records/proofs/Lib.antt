@@ -3,3 +3,4 @@ pub mod Numbers
 pub mod Bodies
 pub mod Walks
 pub mod Appending
+pub mod Determined

@@ -1,0 +1,18 @@
+-- Every public function of this crate has one outcome: its contract leaves nothing open. Read before: specs/Determined.antt of base.
+use mathlib.Core.Path.{sym, _∙_}
+use Rattle.base.specs.Determined.{Determined}
+use Rattle.machine_binary.proofs.activate.activate_file.Kinds as activate-file-kinds
+use Rattle.machine_binary.proofs.activate.activate_file.Reads as activate-file-reads
+use Rattle.machine_binary.proofs.read_binary.read_binary.Kinds as read-binary-kinds
+use Rattle.machine_binary.proofs.read_binary.read_binary.Reads as read-binary-reads
+use Rattle.machine_binary.proofs.update_binary.update_binary.Kinds as update-binary-kinds
+use Rattle.machine_binary.proofs.update_binary.update_binary.Reads as update-binary-reads
+
+pub activate-file-determined : Determined activate-file-kinds.ps activate-file-kinds.r activate-file-reads.Post
+activate-file-determined κs a e f p q i = ((p ∙ sym q) i, e .1)
+
+pub read-binary-determined : Determined read-binary-kinds.ps read-binary-kinds.r read-binary-reads.Post
+read-binary-determined κs a e f p q i = ((p ∙ sym q) i, e .1)
+
+pub update-binary-determined : Determined update-binary-kinds.ps update-binary-kinds.r update-binary-reads.Post
+update-binary-determined κs a e f p q i = ((p ∙ sym q) i, e .1)

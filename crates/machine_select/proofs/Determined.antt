@@ -1,0 +1,13 @@
+-- Every public function of this crate has one outcome: its contract leaves nothing open. Read before: specs/Determined.antt of base.
+use mathlib.Core.Path.{sym, _∙_}
+use Rattle.base.specs.Determined.{Determined}
+use Rattle.machine_select.proofs.fmm.fmm.Kinds as fmm-kinds
+use Rattle.machine_select.proofs.fmm.fmm.Reads as fmm-reads
+use Rattle.machine_select.proofs.select.select.Kinds as select-kinds
+use Rattle.machine_select.proofs.select.select.Reads as select-reads
+
+pub fmm-determined : Determined fmm-kinds.ps fmm-kinds.r fmm-reads.Post
+fmm-determined κs a e f p q i = ((p ∙ sym q) i, e .1)
+
+pub select-determined : Determined select-kinds.ps select-kinds.r select-reads.Post
+select-determined κs a e f p q i = ((p ∙ sym q) i, e .1)

@@ -1,0 +1,23 @@
+-- Every public function of this crate has one outcome: its contract leaves nothing open. Read before: specs/Determined.antt of base.
+use mathlib.Core.Path.{ap, sym, _∙_}
+use Rattle.base.specs.Determined.{Determined}
+use Rattle.malquindo.proofs.malquindo_session_len.Kinds as malquindo-session-len-kinds
+use Rattle.malquindo.proofs.malquindo_session_len.Reads as malquindo-session-len-reads
+use Rattle.malquindo.proofs.malquindo_open.Kinds as malquindo-open-kinds
+use Rattle.malquindo.proofs.malquindo_open.Reads as malquindo-open-reads
+use Rattle.malquindo.proofs.malquindo_command.Kinds as malquindo-command-kinds
+use Rattle.malquindo.proofs.malquindo_command.Reads as malquindo-command-reads
+use Rattle.malquindo.proofs.malquindo_move.Kinds as malquindo-move-kinds
+use Rattle.malquindo.proofs.malquindo_move.Reads as malquindo-move-reads
+
+pub malquindo-session-len-determined : Determined malquindo-session-len-kinds.ps malquindo-session-len-kinds.r malquindo-session-len-reads.Post
+malquindo-session-len-determined κs a e f p q i = ((p ∙ sym q) i, e .1)
+
+pub malquindo-open-determined : Determined malquindo-open-kinds.ps malquindo-open-kinds.r malquindo-open-reads.Post
+malquindo-open-determined κs a e f p q i = ((p .0 ∙ sym (q .0)) i, (tt, ((p .1 ∙ sym (q .1)) i, tt)))
+
+pub malquindo-command-determined : Determined malquindo-command-kinds.ps malquindo-command-kinds.r malquindo-command-reads.Post
+malquindo-command-determined κs a e f p q = ap (λ o. (o .result, (o .image, (o .session, (tt, (o .response, tt)))))) (p ∙ sym q)
+
+pub malquindo-move-determined : Determined malquindo-move-kinds.ps malquindo-move-kinds.r malquindo-move-reads.Post
+malquindo-move-determined κs a e f p q i = ((p .0 ∙ sym (q .0)) i, (tt, (tt, ((p .1 ∙ sym (q .1)) i, tt))))

@@ -1,0 +1,33 @@
+-- Every public function of this crate that answers something has one outcome; the others print. Read before: specs/Determined.antt of base.
+use mathlib.Core.Path.{sym, _∙_}
+use Rattle.base.specs.Determined.{Determined}
+use Rattle.program_console.proofs.room.Kinds as room-kinds
+use Rattle.program_console.proofs.room.Reads as room-reads
+use Rattle.program_console.proofs.cases.next.Kinds as next-kinds
+use Rattle.program_console.proofs.cases.next.Reads as next-reads
+use Rattle.program_console.proofs.result.refusal.Kinds as result-refusal-kinds
+use Rattle.program_console.proofs.result.refusal.Reads as result-refusal-reads
+use Rattle.program_console.proofs.result.status.Kinds as result-status-kinds
+use Rattle.program_console.proofs.result.status.Reads as result-status-reads
+use Rattle.program_console.proofs.result.length.Kinds as length-kinds
+use Rattle.program_console.proofs.result.length.Reads as length-reads
+use Rattle.program_console.proofs.result.moved_length.Kinds as moved-length-kinds
+use Rattle.program_console.proofs.result.moved_length.Reads as moved-length-reads
+
+pub room-determined : Determined room-kinds.ps room-kinds.r room-reads.Post
+room-determined κs a e f p q i = ((p ∙ sym q) i, e .1)
+
+pub next-determined : Determined next-kinds.ps next-kinds.r next-reads.Post
+next-determined κs a e f p q i = ((p .0 ∙ sym (q .0)) i, e .1)
+
+pub result-refusal-determined : Determined result-refusal-kinds.ps result-refusal-kinds.r result-refusal-reads.Post
+result-refusal-determined κs a e f p q i = ((p ∙ sym q) i, e .1)
+
+pub result-status-determined : Determined result-status-kinds.ps result-status-kinds.r result-status-reads.Post
+result-status-determined κs a e f p q i = ((p ∙ sym q) i, e .1)
+
+pub length-determined : Determined length-kinds.ps length-kinds.r length-reads.Post
+length-determined κs a e f p q i = ((p ∙ sym q) i, e .1)
+
+pub moved-length-determined : Determined moved-length-kinds.ps moved-length-kinds.r moved-length-reads.Post
+moved-length-determined κs a e f p q i = ((p ∙ sym q) i, e .1)
