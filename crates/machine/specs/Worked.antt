@@ -56,9 +56,10 @@ exchange c d w p rs = record { command = c; answers = d; status = w; place = p; 
 -- 2,050 zeros were lent: now they begin with the data, SW1 and SW2; the length counts these [T1]
 unfoldable pub repliesWith : List ℕ → ℕ → Session → List ℕ → Outcome
 repliesWith d w s img = record {
-    answer = record { verdict = Accepted; length = length d + 2; status = w; session = s };
-    image = img;
-    buffer = d ++ (w / 256 ∷ w % 256 ∷ replicate (2048 - length d) 0) }
+  answer = record { verdict = Accepted; length = length d + 2; status = w; session = s };
+  image = img;
+  buffer = d ++ (w / 256 ∷ w % 256 ∷ replicate (2048 - length d) 0);
+}
 
 -- a command on an image in a session, and what it comes to [T1]
 abbrev pub Replies : List ℕ → Session → List ℕ → Outcome → Type 0
@@ -109,21 +110,21 @@ exchanges =
     ∷ exchange (0x00 ∷ 0xB2 ∷ 0x03 ∷ 0x04 ∷ 0x00 ∷ 0x00 ∷ 0x00 ∷ []) [] 0x6A83 (OnRecord 0x0101 2) (usa ∷ fra ∷ [])
     -- m6
     ∷ exchange (searchFrom 0x03) (0x7F ∷ 0x76 ∷ 0x06 ∷ 0x51 ∷ 0x01 ∷ 0x01 ∷ 0x02 ∷ 0x01 ∷ 0x02 ∷ []) 0x9000
-        (OnRecord 0x0101 2) (usa ∷ fra ∷ [])
+    (OnRecord 0x0101 2) (usa ∷ fra ∷ [])
     -- m7
     ∷ exchange (searchFrom 0x02) [] 0x6282 (OnRecord 0x0101 2) (usa ∷ fra ∷ [])
     -- m8
     ∷ exchange (0x80 ∷ 0x5E ∷ 0x01 ∷ 0x07 ∷ 0x04 ∷ 0x51 ∷ 0x02 ∷ 0x01 ∷ 0x01 ∷ 0x00 ∷ [])
-        (0x7F ∷ 0x78 ∷ 0x09 ∷ 0x81 ∷ 0x01 ∷ 0x22 ∷ 0x82 ∷ 0x01 ∷ 0x00 ∷ 0x83 ∷ 0x01 ∷ 0x02 ∷ []) 0x9000
-        (OnRecord 0x0101 2) (usa ∷ fra ∷ [])
+    (0x7F ∷ 0x78 ∷ 0x09 ∷ 0x81 ∷ 0x01 ∷ 0x22 ∷ 0x82 ∷ 0x01 ∷ 0x00 ∷ 0x83 ∷ 0x01 ∷ 0x02 ∷ []) 0x9000
+    (OnRecord 0x0101 2) (usa ∷ fra ∷ [])
     -- m9: appends of 21, 20, 392 and 391 bytes
     ∷ exchange ((0x00 ∷ 0xE2 ∷ 0x00 ∷ 0x08 ∷ 0x15 ∷ []) ++ replicate 21 0x11) [] 0x6A84 (OnRecord 0x0101 2) (usa ∷ fra ∷ [])
     ∷ exchange ((0x00 ∷ 0xE2 ∷ 0x00 ∷ 0x08 ∷ 0x14 ∷ []) ++ replicate 20 0x11) [] 0x9000
-        (OnRecord 0x0101 3) (usa ∷ fra ∷ replicate 20 0x11 ∷ [])
+    (OnRecord 0x0101 3) (usa ∷ fra ∷ replicate 20 0x11 ∷ [])
     ∷ exchange ((0x00 ∷ 0xE2 ∷ 0x00 ∷ 0x08 ∷ 0x00 ∷ 0x01 ∷ 0x88 ∷ []) ++ replicate 392 0x11) [] 0x6700
-        (OnRecord 0x0101 3) (usa ∷ fra ∷ replicate 20 0x11 ∷ [])
+    (OnRecord 0x0101 3) (usa ∷ fra ∷ replicate 20 0x11 ∷ [])
     ∷ exchange ((0x00 ∷ 0xE2 ∷ 0x00 ∷ 0x08 ∷ 0x00 ∷ 0x01 ∷ 0x87 ∷ []) ++ replicate 391 0x11) [] 0x6A84
-        (OnRecord 0x0101 3) (usa ∷ fra ∷ replicate 20 0x11 ∷ [])
+    (OnRecord 0x0101 3) (usa ∷ fra ∷ replicate 20 0x11 ∷ [])
     -- m10
     ∷ exchange (0x00 ∷ 0xB2 ∷ 0x01 ∷ 0x04 ∷ 0x00 ∷ []) [] 0x6700 (OnRecord 0x0101 3) (usa ∷ fra ∷ replicate 20 0x11 ∷ [])
     ∷ []
