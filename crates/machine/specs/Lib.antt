@@ -1,3 +1,4 @@
--- The command machine: what one call does.
+-- The command machine: what one call does, and a card to try it on.
 pub mod Effects
 pub mod Step
+pub mod Worked

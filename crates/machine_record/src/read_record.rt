@@ -75,10 +75,12 @@ pub fn read_record(image: &[u8], s: Session, f: Frame) -> Action
     ensures { λ d. ⌜ d ≡ readRecord (now (image .entry)) s f ⌝ }
 {
     let h = f.header;
-    if !four_or_five(h.p2 % 8) {
+    let p2_fits = four_or_five(h.p2 % 8);
+    let le_fits = all_of_record(f);
+    if !p2_fits {
         return Action::Status(status::WRONG_PARAMETERS);
     }
-    if !all_of_record(f) {
+    if !le_fits {
         return Action::Status(status::WRONG_LENGTH);
     }
     match resolve_record(image, s, Access::Read, tests::or_current(h.p2 / 8)) {

@@ -31,6 +31,24 @@ placed s p = record { rights = s .rights; application = s .application; place = 
 abbrev pub entered : Session → ℕ → Session
 entered s a = record { rights = s .rights; application = a; place = Nowhere }
 
+-- the number of a place [S1] [X1] [C2]
+abbrev pub placeNumber : Place → ℕ
+placeNumber Nowhere = 0
+placeNumber (OnFile i) = 1
+placeNumber (OnRecord i n) = 2
+
+-- the id of its file and the number of its record, 0 where there is none [X1] [C2]
+abbrev pub placeFile : Place → ℕ
+placeFile Nowhere = 0
+placeFile (OnFile i) = i
+placeFile (OnRecord i n) = i
+
+-- [X1] [C2]
+abbrev pub placeRecord : Place → ℕ
+placeRecord Nowhere = 0
+placeRecord (OnFile i) = 0
+placeRecord (OnRecord i n) = n
+
 -- the current place is on the file with this id [S7]
 unfoldable pub isCurrent : Place → ℕ → Bool
 isCurrent Nowhere i = false

@@ -99,10 +99,10 @@ pub fn open(certificates: &[u8]) -> Session
 pub fn open_verdict(certificates: &[u8]) -> Verdict
     ensures { λ r. ⌜ r ≡ openVerdict (now (certificates .entry)) ⌝ }
 {
-    if certificates.len() == 60 {
-        return Verdict::Accepted;
+    if certificates.len() != 60 {
+        return Verdict::Refused(Refusal::BadRights);
     }
-    Verdict::Refused(Refusal::BadRights)
+    Verdict::Accepted
 }
 
 fn is_current(p: Place, id: usize) -> bool

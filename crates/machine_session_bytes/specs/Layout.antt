@@ -8,6 +8,7 @@ use lib.Dec.{leb, eqb}
 use Rattle.base.specs.Choice.{ifElse, allOf}
 use Rattle.store_records.specs.Little.{le16}
 use Rattle.machine_rights.specs.Chain.{held}
+use Rattle.machine_session.specs.Session.{placeNumber, placeFile, placeRecord}
 use Rattle.machine_session.specs.declared.Place.{Place}
 use Rattle.machine_session.specs.declared.Place.the-variants.{Nowhere, OnFile, OnRecord}
 use Rattle.machine_session.specs.declared.Session.{Session}
@@ -16,9 +17,7 @@ use Rattle.machine_session.specs.declared.Session.{Session}
 
 -- the application, the place, the file id, the record number [X1]
 unfoldable pub placeBytes : ℕ → Place → List ℕ
-placeBytes a Nowhere = a % 256 ∷ 0 ∷ 0 ∷ 0 ∷ 0 ∷ []
-placeBytes a (OnFile i) = a % 256 ∷ 1 ∷ i % 256 ∷ i / 256 % 256 ∷ 0 ∷ []
-placeBytes a (OnRecord i n) = a % 256 ∷ 2 ∷ i % 256 ∷ i / 256 % 256 ∷ n % 256 ∷ []
+placeBytes a p = a % 256 ∷ placeNumber p ∷ placeFile p % 256 ∷ placeFile p / 256 % 256 ∷ placeRecord p % 256 ∷ []
 
 -- [X1]
 unfoldable pub sessionBytes : Session → List ℕ

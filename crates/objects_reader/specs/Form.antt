@@ -5,7 +5,7 @@
 -- their likes prove that it accepts exactly that. This file says what a reading answers for every input, where it finds a fault too.
 use Prim.Native.Nat.{ℕ, zero, suc, _+_, _-_, min}
 use mathlib.Core.List.{List, []}
-use mathlib.Core.Bool.{Bool, true, false}
+use mathlib.Core.Bool.{Bool}
 use lib.ListN.{length, getD, take, drop, set, replicate}
 use lib.Dec.{ltb, eqb}
 use Rattle.base.specs.Choice.{ifElse}
@@ -50,12 +50,16 @@ formOf rows = formIn (length rows) rows
 
 -- ---- a reading
 
+-- the number of a fault: another tag or none, a length that does not fit, too deep; 3 is kept for a value that is not the one stated [D9] [C2]
+abbrev pub faultNumber : Fault → ℕ
+faultNumber Clean = 0
+faultNumber Tag = 1
+faultNumber Length = 2
+faultNumber Depth = 4
+
 -- no fault [D9]
 abbrev pub isClean : Fault → Bool
-isClean Clean = true
-isClean Tag = false
-isClean Length = false
-isClean Depth = false
+isClean f = eqb (faultNumber f) 0
 
 -- before anything is read [D9]
 abbrev pub fresh : Reading

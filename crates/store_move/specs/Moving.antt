@@ -49,7 +49,7 @@ roomyTo old list (suc n) = roomyTo old list n && leb (length (content old (rowKi
 unfoldable pub roomy : List ℕ → List ℕ → Bool
 roomy old list = roomyTo old list (rows list)
 
--- each refusal's number [M5] [M6] [M7] [M8] [M9]
+-- each refusal's number [M5] [M6] [M7] [M8] [M9] [C2]
 abbrev pub moveRefusalNumber : MoveRefusal → ℕ
 moveRefusalNumber BadImage = 2
 moveRefusalNumber BadList = 10
