@@ -7,6 +7,7 @@ tried here and not by the gate, because each costs some seconds; the gate tries 
 Prints where each is refused. Needs the proved crates in target/ (rt check promises), and takes about five seconds for each."""
 import os
 import pathlib
+import re
 import shutil
 import subprocess
 import sys
@@ -16,20 +17,25 @@ ROOT = pathlib.Path(__file__).resolve().parent.parent
 EDITS = ROOT / 'tests' / 'statements'
 
 
-def pair_of(path):
-    """The file, the old text and the new text of an edit."""
-    found = dict(line.split(': ', 1) for line in path.read_text(encoding='utf-8').splitlines() if not line.startswith('#'))
-    return found['file'], found['old'], found['new']
+def edited(text, edit):
+    """The text with the edit in it: its old text stands there once, or once in the record that the edit names."""
+    start = text.index(f'pub record {edit["record"]} ') if 'record' in edit else 0
+    end = re.compile(r'\n(?=\S)').search(text, start) if start else None
+    end = end.start() if end else len(text)
+    if text[start:end].count(edit['old']) != 1:
+        raise ValueError('its old text does not stand there once')
+    return text[:start] + text[start:end].replace(edit['old'], edit['new']) + text[end:]
 
 
 def refused(copy, path):
-    """Where the prover refuses the copy with this edit, or None; or why it could not be tried."""
-    name, old, new = pair_of(path)
-    target = copy / 'crates' / 'promises' / name
+    """Whether the prover refuses the copy with this edit, and where; or why it could not be tried."""
+    edit = dict(line.split(': ', 1) for line in path.read_text(encoding='utf-8').splitlines() if not line.startswith('#'))
+    target = copy / 'crates' / 'promises' / edit['file']
     text = target.read_text(encoding='utf-8')
-    if text.count(old) != 1:
-        return False, f'its old text stands {text.count(old)} times in {name}'
-    target.write_text(text.replace(old, new), encoding='utf-8')
+    try:
+        target.write_text(edited(text, edit), encoding='utf-8')
+    except ValueError as problem:
+        return False, str(problem)
     run = subprocess.run(['rt', 'dev', 'promises'], cwd=copy, capture_output=True, text=True, env={**os.environ, 'RT_CUT': '0'})
     target.write_text(text, encoding='utf-8')
     errors = [line for line in (run.stdout + run.stderr).splitlines() if ': error: ' in line]
