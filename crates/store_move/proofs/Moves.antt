@@ -15,7 +15,7 @@ use Rattle.store_move_plan.specs.Rooms.{noContent, blank, lays, plan}
 use Rattle.store_move_plan.specs.declared.Laid.the-variants.{Total, Unfit}
 use Rattle.store_move_plan.proofs.Search.{same-length}
 use Rattle.store_move_plan.proofs.Blank.{none-fits}
-use Rattle.store_move.specs.Moving.{content, moved, lists, roomy, moveRefusalNumber, refuseUnless, targetAfter, moveCard, moveCardInto, Numbered}
+use Rattle.store_move.specs.Moving.{content, moved, lists, roomy, moveRefusalNumber, refuseUnless, unlessUnfit, targetAfter, moveCard, moveCardInto, Numbered}
 use Rattle.store_move.specs.declared.MoveRefusal.{MoveRefusal}
 use Rattle.store_move.specs.declared.MoveRefusal.the-variants.{BadImage, BadList, MissingKind, SmallRoom, ShortTarget}
 use Rattle.store_move.specs.declared.Moved.{Moved}
@@ -24,18 +24,11 @@ use Rattle.store_move.proofs.Fitting.{roomy-at}
 
 -- ---- the list's plan
 
-pub plan-unfit : (list : List ℕ) → plan list ≡ Unfit → lays list ≡ false
-unfolding plan
-plan-unfit list e =
-    by-cases (lays list)
-    (λ y. absurd (let z : Total (length (blank list)) ≡ Unfit = simp y at e in let x : _≡_ {A = ℕ} 0 1 = cc in omega arith))
-    (λ n. n)
-
-pub plan-fit : (list : List ℕ) (n : ℕ) → plan list ≡ Total n → (lays list ≡ true) × (n ≡ length (blank list))
+pub plan-fit : (list : List ℕ) (n : ℕ) → plan list ≡ Total n → n ≡ length (blank list)
 unfolding plan
 plan-fit list n e =
     by-cases (lays list)
-    (λ y. (y, let z : Total (length (blank list)) ≡ Total n = simp y at e in cc))
+    (λ y. let z : Total (length (blank list)) ≡ Total n = simp y at e in cc)
     (λ f. absurd (let z : Unfit ≡ Total n = simp f at e in let x : _≡_ {A = ℕ} 0 1 = cc in omega arith))
 
 -- contents that fit leave the image as long as the list says
@@ -59,27 +52,27 @@ module _ (old list t : List ℕ) where
 
   module _ (o : wellFormed old ≡ true) where
     pub moveCard-badList : plan list ≡ Unfit → Says (Refused BadList) t
-    moveCard-badList e = says (Refused BadList) (unfold moveCard in simp (o, plan-unfit list e))
+    moveCard-badList e = says (Refused BadList) (unfold moveCard in simp (o, e))
 
     module _ (n : ℕ) (p : plan list ≡ Total n) where
       pub moveCard-missingKind : lists old list ≡ false → Says (Refused MissingKind) t
-      moveCard-missingKind e = says (Refused MissingKind) (unfold moveCard in simp (o, plan-fit list n p .0, e))
+      moveCard-missingKind e = says (Refused MissingKind) (unfold moveCard in simp (o, p, e))
 
       module _ (a : lists old list ≡ true) where
         pub moveCard-smallRoom : roomy old list ≡ false → Says (Refused SmallRoom) t
-        moveCard-smallRoom e = says (Refused SmallRoom) (unfold moveCard in simp (o, plan-fit list n p .0, a, e))
+        moveCard-smallRoom e = says (Refused SmallRoom) (unfold moveCard in simp (o, p, a, e))
 
         module _ (r : roomy old list ≡ true) where
           pub moved-length-plan : length (moved old list) ≡ n
-          moved-length-plan = moved-length old list r ∙ sym (plan-fit list n p .1)
+          moved-length-plan = moved-length old list r ∙ sym (plan-fit list n p)
 
           pub moveCard-shortTarget : length t < n → Says (Refused ShortTarget) t
           moveCard-shortTarget h =
-              says (Refused ShortTarget) (unfold moveCard in simp (o, plan-fit list n p .0, a, r, lt-leb (length (moved old list)) (length t) (omega (arith, moved-length-plan))))
+              says (Refused ShortTarget) (unfold moveCard in simp (o, p, a, r, lt-leb (length (moved old list)) (length t) (omega (arith, moved-length-plan))))
 
           pub moveCard-accepted : n ≤ length t → (t′ : List ℕ) → t′ ≡ moved old list ++ drop (length (moved old list)) t → Says (Image n) t′
           moveCard-accepted h t′ e =
-              let s = says (Image (length (moved old list))) (unfold moveCard in simp (o, plan-fit list n p .0, a, r, le-leb (length (moved old list)) (length t) (omega (arith, moved-length-plan)))) in
+              let s = says (Image (length (moved old list))) (unfold moveCard in simp (o, p, a, r, le-leb (length (moved old list)) (length t) (omega (arith, moved-length-plan)))) in
               (ap Image (sym moved-length-plan) ∙ s .0, e ∙ s .1)
 
 -- ---- the numbers that it answers
@@ -103,6 +96,10 @@ unless-ind : (P : Moved → Type 0) (t : Bool) (w : MoveRefusal) (m : Moved) →
 unless-ind P true w m r i = i refl
 unless-ind P false w m r i = r
 
+unfit-ind : (P : Moved → Type 0) (list : List ℕ) (m : Moved) → P (Refused BadList) → (lays list ≡ true → P m) → P (unlessUnfit (plan list) m)
+unfolding plan
+unfit-ind P list m r i = by-cases (lays list) (λ y. rw y (i y)) (λ n. rw n r)
+
 pub lays-length : (list : List ℕ) → lays list ≡ true → length (blank list) ≤ 262144
 unfolding lays wellFormed
 lays-length list e = leb-true _ _ (allOf-facts _ (allOf-facts _ e .1 .0) .0)
@@ -111,7 +108,7 @@ pub moveCard-numbered : (old list : List ℕ) (n : ℕ) → Numbered (moveCard o
 unfolding moveCard
 moveCard-numbered old list n =
     unless-ind Numbered (wellFormed old) BadImage _ (omega arith)
-    (λ o. unless-ind Numbered (lays list) BadList _ (omega arith)
+    (λ o. unfit-ind Numbered list _ (omega arith)
     (λ y. unless-ind Numbered (lists old list) MissingKind _ (omega arith)
     (λ a. unless-ind Numbered (roomy old list) SmallRoom _ (omega arith)
     (λ r. unless-ind Numbered (leb (length (moved old list)) n) ShortTarget _ (omega arith)
@@ -122,6 +119,13 @@ moveCard-numbered old list n =
 unless-held : (t : Bool) (w : MoveRefusal) (m : Moved) (l : ℕ) → refuseUnless t w m ≡ Image l → (t ≡ true) × (m ≡ Image l)
 unless-held true w m l e = (refl, e)
 unless-held false w m l e = absurd (let z : _≡_ {A = ℕ} 0 1 = cc in omega arith)
+
+unfit-held : (list : List ℕ) (m : Moved) (l : ℕ) → unlessUnfit (plan list) m ≡ Image l → (lays list ≡ true) × (m ≡ Image l)
+unfolding plan
+unfit-held list m l e =
+    by-cases (lays list)
+    (λ y. (y, simp y at e))
+    (λ n. absurd (let z : Refused BadList ≡ Image l = simp n at e in let x : _≡_ {A = ℕ} 0 1 = cc in omega arith))
 
 pub record Accepted (old list : List ℕ) (n l : ℕ) : Type 0 where
   pub well : wellFormed old ≡ true
@@ -135,7 +139,7 @@ pub moveCard-facts : (old list : List ℕ) (n l : ℕ) → moveCard old list n �
 unfolding moveCard
 moveCard-facts old list n l e =
     let a = unless-held (wellFormed old) BadImage _ l e in
-    let b = unless-held (lays list) BadList _ l (a .1) in
+    let b = unfit-held list _ l (a .1) in
     let c = unless-held (lists old list) MissingKind _ l (b .1) in
     let d = unless-held (roomy old list) SmallRoom _ l (c .1) in
     let f = unless-held (leb (length (moved old list)) n) ShortTarget _ l (d .1) in

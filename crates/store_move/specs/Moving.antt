@@ -11,7 +11,9 @@ use Rattle.store_records.specs.Body.{used}
 use Rattle.store_kinds.specs.Biometrics.{written}
 use Rattle.store_kinds.specs.Rules.{isBiometrics}
 use Rattle.store_image.specs.Image.{kindAt, endAt, has, wellFormed, body}
-use Rattle.store_move_plan.specs.Rooms.{rows, rowRoom, rowKind, laid, blank, lays}
+use Rattle.store_move_plan.specs.Rooms.{rows, rowRoom, rowKind, laid, blank, plan}
+use Rattle.store_move_plan.specs.declared.Laid.{Laid}
+use Rattle.store_move_plan.specs.declared.Laid.the-variants.{Total, Unfit}
 use Rattle.store_move.specs.declared.MoveRefusal.{MoveRefusal}
 use Rattle.store_move.specs.declared.MoveRefusal.the-variants.{BadImage, BadList, MissingKind, SmallRoom, ShortTarget}
 use Rattle.store_move.specs.declared.Moved.{Moved}
@@ -62,11 +64,16 @@ abbrev pub refuseUnless : Bool → MoveRefusal → Moved → Moved
 refuseUnless true w further = further
 refuseUnless false w further = Refused w
 
+-- by what a list lays out: where it is no image, the move is refused [M5] [C2]
+abbrev pub unlessUnfit : Laid → Moved → Moved
+unlessUnfit (Total n) further = further
+unlessUnfit Unfit further = Refused BadList
+
 -- what a move into a target of n bytes comes to: the first refusal in this order whose test fails, else the length of the new image [M8] [M9]
 unfoldable pub moveCard : List ℕ → List ℕ → ℕ → Moved
 moveCard old list n =
     refuseUnless (wellFormed old) BadImage
-    (refuseUnless (lays list) BadList
+    (unlessUnfit (plan list)
     (refuseUnless (lists old list) MissingKind
     (refuseUnless (roomy old list) SmallRoom
     (refuseUnless (leb (length (moved old list)) n) ShortTarget

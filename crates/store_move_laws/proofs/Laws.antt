@@ -17,7 +17,7 @@ use Rattle.store_kinds.specs.Biometrics.{writtenBytes as bytes}
 use Rattle.store_kinds.specs.Rules.{isBiometrics, kindOk}
 use Rattle.store_image.specs.Image.{has, wellFormed, body, recordsOf}
 use Rattle.store_image.proofs.Files.{body-lacking, body-wellFormed}
-use Rattle.store_move_plan.specs.Rooms.{rows, rowRoom, rowKind, zeros, filled, section, sections, laid, noContent, blank, lays}
+use Rattle.store_move_plan.specs.Rooms.{rows, rowRoom, rowKind, zeros, filled, section, sections, laid, noContent, blank, lays, plan}
 use Rattle.store_move_plan.proofs.Rows.{filled-length}
 use Rattle.store_move_plan.proofs.Empty.{empty-state, empty-written}
 use Rattle.store_move_plan.proofs.Blank.{filled-empty, none-fits}
@@ -157,7 +157,7 @@ module _ (old : List ℕ) (well : wellFormed old ≡ true) where
   )
 
   pub same-moved : (n : ℕ) → length old ≤ n → moveCard old (heads old) n ≡ Image (length old)
-  unfolding moveCard
+  unfolding moveCard plan
   same-moved n h =
       let l : length (moved old (heads old)) ≡ length old = moved-length old (heads old) (same-accepted .2) ∙ empty-length old well in
       rw (well, same-accepted .0, same-accepted .1, same-accepted .2, l, le-leb _ _ h)
@@ -196,7 +196,7 @@ module _ (old a b : List ℕ) {n l m j : ℕ} (g : Accepted old a n l) (q : Acce
 
   -- and no refusal comes in between
   pub twice-moved : moveCard old b m ≡ Image j
-  unfolding moveCard
+  unfolding moveCard plan
   twice-moved =
       let e : lists old b ≡ true = all-listed old b (g .well) (λ k h. listed (moved old a) b k (q .all) (moved-files old a g k h)) in
       let f : roomy old b ≡ true = all-fit old b (λ i h. same-room (rowKind b i) (rowRoom b i) (roomy-at (moved old a) b (q .fit) i h) .0) in

@@ -9,7 +9,7 @@ use Rattle.store_records.specs.Body.{count, place, used, okAt, okTo, bodyOk}
 use Rattle.store_kinds.specs.Biometrics.{state, written, room, bioOk}
 use Rattle.store_kinds.specs.Rules.{rules, firstRule, ruleOf, allRules, isBiometrics, applicationOf, there, presentBy, kindOk}
 use Rattle.store_image.specs.Image.{findFrom, find, has, present, sectionOk, sectionsOk, wellFormed, body}
-use Rattle.store_move_plan.specs.Rooms.{rows, filled, section, sections, laid, blank, lays}
+use Rattle.store_move_plan.specs.Rooms.{rows, filled, section, sections, laid, blank, lays, plan}
 use Rattle.store_move.specs.Moving.{contentLength, content, moved, listsFrom, lists, roomyTo, roomy, moveCard, moveCardInto}
 use Rattle.store_move.specs.declared.MoveRefusal.the-variants.{BadImage, BadList, MissingKind, SmallRoom, ShortTarget}
 use Rattle.store_move.specs.declared.Moved.the-variants.{Image, Refused}
@@ -50,5 +50,5 @@ pub worked : ((moveCard old list 41
     ≡ (Image 41 ∷ Refused BadImage ∷ Refused BadList ∷ Refused BadList ∷ Refused MissingKind ∷ Refused SmallRoom ∷ Refused ShortTarget ∷ []))
     × (moveCardInto old list (replicate 43 0x5A) ≡ new ++ (0x5A ∷ 0x5A ∷ []))
     × (moveCardInto new (heads new) (replicate 41 0x5A) ≡ new)
-unfolding allOf le16 le32 count place used okAt okTo bodyOk state written room bioOk rules firstRule ruleOf allRules isBiometrics kindOk findFrom find has there presentBy present applicationOf sectionOk sectionsOk wellFormed body rows filled section sections laid blank lays contentLength content moved listsFrom lists roomyTo roomy moveCard moveCardInto headsFrom heads
+unfolding allOf le16 le32 count place used okAt okTo bodyOk state written room bioOk rules firstRule ruleOf allRules isBiometrics kindOk findFrom find has there presentBy present applicationOf sectionOk sectionsOk wellFormed body rows filled section sections laid blank lays plan contentLength content moved listsFrom lists roomyTo roomy moveCard moveCardInto headsFrom heads
 worked = (refl, refl, refl)
