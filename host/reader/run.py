@@ -6,14 +6,19 @@
 3. Random commands through the reader, answers and file compared with the library called directly; the longest command.
 4. The reader goes, and the program ends with status 0.
 
-It needs root where pcscd does, installs nothing, and ends only what it started. The last line is 'N compared, 0 wrong'.
+It needs root, as pcscd does; installs nothing, and ends only what it started. The last line is 'N compared, 0 wrong', with status 0. Status 1:
+something was wrong; 2: something is missing, or a pcscd runs already.
 run.py [SEED [CARDS [COMMANDS]]]; 1, 5 and 200 where they are not given."""
 import ctypes
+import functools
 import glob
+import operator
 import os
 import pathlib
 import re
 import shutil
+import signal
+import socket
 import subprocess
 import sys
 import tempfile
@@ -70,6 +75,16 @@ def missing():
         yield f'{pcsc.LIBRARY} (comes with the package pcscd)'
     if not shutil.which('cargo'):
         yield 'cargo'
+
+
+def pcscd_runs():
+    """Whether another pcscd, or systemd in its place, takes connections. A socket alone may be left of one that was stopped."""
+    try:
+        with socket.socket(socket.AF_UNIX) as client:
+            client.connect(SOCKET)
+            return True
+    except OSError:
+        return False
 
 
 def built(folder, numbers):
@@ -180,6 +195,7 @@ def through_opensc(bench):
     card = bench.connect()
     atr = card.atr()
     card.close()
+    bench.count.same('the sum of the ATR behind its first byte', functools.reduce(operator.xor, atr[1:]), 0)
     compare("opensc-tool's ATR", r'^([0-9a-f]{2}(?::[0-9a-f]{2})+)$', printed('--atr'), atr)
     _, select, wanted = worked.exchanges(RULES.read_text(encoding='utf-8'))[0]
     compare("opensc-tool's SELECT", r'SW1=0x([0-9A-F]{2}), SW2=0x([0-9A-F]{2})', printed('--send-apdu', select.hex(':')), wanted)
@@ -242,8 +258,13 @@ def big_card():
 
 def connected(daemon):
     """A connection to the daemon, once it has the reader."""
+    def context_of_it():
+        if daemon.process.poll() is not None:
+            raise Wrong(f'pcscd ended at once (is this root?); it said: {daemon.said()}')
+        return pcsc.Context()
+
     try:
-        context = pcsc.wait(pcsc.Context)
+        context = pcsc.wait(context_of_it)
         if READER in pcsc.wait(context.readers):
             return context
     except pcsc.Error as error:
@@ -266,21 +287,29 @@ def run(folder, numbers):
 
 
 def main():
-    numbers = [int(word) for word in sys.argv[1:]] + [1, 5, 200][len(sys.argv) - 1:]
+    words = sys.argv[1:]
+    if len(words) > 3 or not all(word.isdecimal() for word in words):
+        print(__doc__)
+        return 0 if words in (['-h'], ['--help']) else 2
+    numbers = [int(word) for word in words] + [1, 5, 200][len(words):]
     lacking = list(missing())
     if lacking:
         print('! missing: ' + ', '.join(lacking), file=sys.stderr)
         print('! Debian: apt install pcscd vsmartcard-vpcd pcsc-tools opensc', file=sys.stderr)
         return 2
-    if os.path.exists(SOCKET):
-        print(f'! a pcscd runs already ({SOCKET} is there); stop it first: systemctl stop pcscd.socket pcscd', file=sys.stderr)
+    if pcscd_runs():
+        print('! a pcscd runs already; stop it first: systemctl stop pcscd.socket pcscd', file=sys.stderr)
         return 2
+    # To be told to end is a way out like any other: what was started is stopped.
+    signal.signal(signal.SIGTERM, lambda *_: sys.exit(1))
     with tempfile.TemporaryDirectory() as folder:
         try:
             return run(pathlib.Path(folder), numbers)
         except (Wrong, pcsc.Error, TimeoutError, subprocess.TimeoutExpired) as wrong:
             print(f'! {wrong}', file=sys.stderr)
-            return 1
+        except KeyboardInterrupt:
+            print('! interrupted', file=sys.stderr)
+        return 1
 
 
 if __name__ == '__main__':

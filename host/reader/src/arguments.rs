@@ -12,7 +12,7 @@ Puts a card into vsmartcard's virtual reader, where any PC/SC program sees it.
 pcscd has to run, with vsmartcard-vpcd. The card stays until the reader goes.
 
   CARD              the file of a card image; a change is in it before the
-                    answer is sent
+                    answer is sent; no other program may write it meanwhile
   --rights HEX120   the rights of three certificates, 60 bytes in hexadecimal;
                     power on and reset open a session with them; without this
                     option every session has all rights

@@ -15,7 +15,7 @@ const HISTORICAL: [u8; 7] = [
     0x73,
     // b8: selection by full name. b3: short file ids. b2: records by number.
     0b1000_0110,
-    // b4 to b1: a data unit has two half-bytes, to the power of 1: offsets count bytes.
+    // b4 to b1: a data unit has 2 to the power of 1 half-bytes, so offsets count bytes.
     0b0000_0001,
     // b7: Lc and Le may be extended. b6: EF.ATR/INFO says how long commands and responses may be.
     // b8 is off: no command chaining. b5 to b1 are off: one logical channel.

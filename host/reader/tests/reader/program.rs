@@ -40,7 +40,12 @@ fn assert_fails(arguments: &[&OsStr], status: i32, words: &str) {
 }
 
 fn start(card: &Path, slot: &Slot) -> Child {
+    start_with(&[], card, slot)
+}
+
+fn start_with(options: &[&str], card: &Path, slot: &Slot) -> Child {
     program()
+        .args(options)
         .arg(card)
         .args(["--port", &slot.port().to_string()])
         .spawn()
@@ -96,6 +101,26 @@ fn the_reader_goes() {
     let (code, out, why) = ended(&child.wait_with_output().expect("it ends"));
     assert_eq!((code, why.as_str()), (Some(0), ""));
     assert!(out.ends_with("the reader has gone; the card is kept\n"));
+}
+
+#[test]
+fn rights_are_those_of_the_command_line() {
+    let card = folder("given_rights").join("card.image");
+    fs::write(&card, travel_card(40)).expect("a card");
+    // The flag of travel is off in the first certificate.
+    let lacking = format!("FE{}", "FF".repeat(59));
+    for (options, answer) in [
+        (vec![], [0x90, 0x00]),
+        (vec!["--rights", &lacking], [0x69, 0x82]),
+    ] {
+        let slot = Slot::new();
+        let child = start_with(&options, &card, &slot);
+        assert_eq!(slot.insert().ask(&SELECT), answer);
+        assert_eq!(
+            ended(&child.wait_with_output().expect("it ends")).0,
+            Some(0)
+        );
+    }
 }
 
 /// A change that cannot be kept gets no answer, and the file is as it was.
