@@ -9,6 +9,7 @@
 //!   sessions, data objects, commands and moves;
 //! - [`scene`]: the calls that every run begins with;
 //! - [`sequence`]: the calls, in sequences on one card each;
+//! - [`talk`]: commands for one card, each with the library's answer;
 //! - [`tally`]: how often each outcome occurred;
 //! - [`sides`]: both implementations, side by side;
 //! - [`sample`]: a sample of calls as data.
@@ -28,5 +29,6 @@ pub mod scene;
 pub mod sequence;
 pub mod sides;
 pub mod step;
+pub mod talk;
 pub mod tally;
 pub mod view;
