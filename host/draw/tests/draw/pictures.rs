@@ -221,14 +221,21 @@ fn the_svg_has_every_shape() {
     }
 }
 
+/// The card to try, and its move in `docs/MOVE.md`.
 #[test]
-fn the_picture_in_the_documents_is_current() {
-    let card = Card::read(&cards::to_try()).expect("a card");
-    let drawn = page::card(&card).svg();
-    let there =
-        std::fs::read_to_string(concat!(env!("CARGO_MANIFEST_DIR"), "/../../docs/card.svg"));
-    assert!(
-        there.is_ok_and(|there| there == drawn),
-        "docs/card.svg is not current: the commands of README.md draw it"
-    );
+fn the_pictures_in_the_documents_are_current() {
+    let image = cards::to_try();
+    let card = Card::read(&image).expect("a card");
+    let rooms = [0x0101, 0x0102, 0x011A].map(|kind| (kind, 100));
+    let mut target = [0; 318];
+    let new = malquindo::move_card(&image, &rooms, &mut target).expect("a move");
+    let moved = page::moved(&card, &Card::read(new).expect("a card"));
+    for (name, picture) in [("card.svg", page::card(&card)), ("move.svg", moved)] {
+        let docs = concat!(env!("CARGO_MANIFEST_DIR"), "/../../docs/");
+        let there = std::fs::read_to_string(format!("{docs}{name}"));
+        assert!(
+            there.is_ok_and(|there| there == picture.svg()),
+            "docs/{name} is not current: README.md and docs/MOVE.md say how it is drawn"
+        );
+    }
 }
