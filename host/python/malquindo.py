@@ -1,0 +1,302 @@
+#!/usr/bin/env python3
+"""The proved file machine for passport chips, for callers in Python: the functions of include/malquindo.h by ctypes.
+
+Only Python's standard library is used. Once, from the root of the repository:
+
+    rt staticlib malquindo                     # proves the library and writes the archive
+    python3 host/python/malquindo.py build     # makes the shared object that Python loads
+
+The card to try (docs/RULES.md, T1), with its commands m1 to m4:
+
+    >>> import malquindo
+    >>> image = malquindo.move_card(b'', [(0x0101, 40), (0x0102, 40), (0x011A, 40)])
+    >>> session = malquindo.open(b'\\xFF' * malquindo.RIGHTS_LEN)
+    >>> def send(digits):
+    ...     return malquindo.command(image, session, bytes.fromhex(digits))
+    >>> print(send('00A4040C07A0000002472001'))     # m1: SELECT the travel application
+    9000
+    >>> print(send('00E20008065F4403555341'))       # m2: APPEND RECORD to EntryRecords, USA
+    9000
+    >>> print(send('00E20008065F4403465241'))       # m3: and FRA
+    9000
+    >>> answer = send('00B20105000000')             # m4: READ RECORD, from record 1 to the last
+    >>> print(answer)
+    5F44035553415F4403465241 9000
+    >>> answer == (b'_D\\x03USA_D\\x03FRA', 0x9000)
+    True
+
+A status word is an answer, whatever it says. A call that gets none is refused, and that is an exception:
+
+    >>> malquindo.command(bytearray(b'no card'), session, b'')
+    Traceback (most recent call last):
+    ...
+    malquindo.Refused: 2 BAD_IMAGE: the image is not well formed
+
+open, command and move_card are for most callers. malquindo_open, malquindo_command and malquindo_move are the functions of the header
+themselves: they take every buffer of the call and answer the number of 64 bits, so that a test can lend a buffer that is too short.
+
+Buffers are bytes, bytearray or memoryview. One that is written, such as the image, is no bytes object. Each length is that of the buffer;
+a type that does not fit is a TypeError, and two buffers that overlap are a ValueError. So no call can do harm, whatever it is given.
+"""
+from __future__ import annotations
+
+import ctypes
+import enum
+import functools
+import os
+import pathlib
+import subprocess
+import sys
+from typing import Iterable, NamedTuple, Tuple, Union
+
+__all__ = ['RIGHTS_LEN', 'SESSION_LEN', 'RESPONSE_LEN', 'IMAGE_LEN', 'Refusal', 'Refused', 'Answer', 'open', 'command', 'move_card',
+           'malquindo_session_len', 'malquindo_open', 'malquindo_command', 'malquindo_move',
+           'malquindo_refusal', 'malquindo_length', 'malquindo_status', 'malquindo_moved']
+
+RIGHTS_LEN = 60         # the rights of a chain: three certificates of 20 bytes
+SESSION_LEN = 25        # a session
+RESPONSE_LEN = 2050     # the shortest response buffer: 2,048 bytes of data, SW1, SW2
+IMAGE_LEN = 262144      # the longest card image
+
+ROOT = pathlib.Path(__file__).resolve().parents[2]
+ARCHIVE = ROOT / 'target/staticlib/libmalquindo.a'
+SHARED = ROOT / 'target/staticlib/libmalquindo.so'
+BUILD = 'python3 host/python/malquindo.py build'
+# Names a shared object that is used instead, for one that was made elsewhere.
+VARIABLE = 'MALQUINDO_LIBRARY'
+
+Buffer = Union[bytes, bytearray, memoryview]
+Written = Union[bytearray, memoryview]
+
+
+class Refusal(enum.IntEnum):
+    """Why a call got no status word, or no new image. The numbers are those of the header."""
+    SHORT_BUFFER = 1
+    BAD_IMAGE = 2
+    BAD_RIGHTS = 3
+    BAD_SESSION = 4
+    BAD_LIST = 10
+    MISSING_KIND = 11
+    SMALL_ROOM = 12
+    SHORT_TARGET = 13
+
+
+REASONS = {
+    Refusal.SHORT_BUFFER: 'the response buffer is shorter than 2,050 bytes',
+    Refusal.BAD_IMAGE: 'the image is not well formed',
+    Refusal.BAD_RIGHTS: 'the rights are not 60 bytes',
+    Refusal.BAD_SESSION: 'the session is malformed, or does not fit the image',
+    Refusal.BAD_LIST: 'the list of rooms lays out no valid image',
+    Refusal.MISSING_KIND: 'a file of the old card has no room in the list',
+    Refusal.SMALL_ROOM: 'a room is too small for its content',
+    Refusal.SHORT_TARGET: 'the target is shorter than the new image',
+}
+
+
+class Refused(Exception):
+    """A call that was refused. Nothing that it was given has changed. `refusal` says why."""
+
+    def __init__(self, number: int):
+        # A library of another version may have other numbers.
+        known = number in REASONS
+        self.refusal = Refusal(number) if known else number
+        super().__init__(f'{number} {self.refusal.name}: {REASONS[number]}' if known else f'{number}, which is not known here')
+
+
+class Answer(NamedTuple):
+    """What a command answers: the data, and the status word as 256 * SW1 + SW2."""
+    data: bytes
+    status: int
+
+    def __str__(self) -> str:
+        return f'{self.data.hex().upper()} {self.status:04X}'.lstrip()
+
+
+def open(rights: Buffer) -> bytearray:
+    """A session with the rights of three certificates of 20 bytes each. A command changes it in place."""
+    session = bytearray(SESSION_LEN)
+    accept(malquindo_open(rights, session))
+    return session
+
+
+def command(image: Written, session: Written, command: Buffer) -> Answer:
+    """Runs one command on a card image. Image and session change in place, and only where the status is 0x9000."""
+    response = bytearray(RESPONSE_LEN)
+    result = accept(malquindo_command(image, session, command, response))
+    # The answer ends with the status word.
+    return Answer(bytes(response[:malquindo_length(result) - 2]), malquindo_status(result))
+
+
+def move_card(old: Buffer, rooms: Iterable[Tuple[int, int]]) -> bytearray:
+    """The image of the card with other rooms. Each room is a kind and the length of its body.
+
+    Every file keeps its records under their numbers, or its state and bytes. A file that only the rooms name is empty: so b'' moved to some
+    rooms is a new card.
+    """
+    rows = [length.to_bytes(4, 'little') + kind.to_bytes(2, 'little') for kind, length in map(room, rooms)]
+    target = bytearray(IMAGE_LEN)
+    result = accept(malquindo_move(old, b''.join(rows), target))
+    return target[:malquindo_moved(result)]
+
+
+def malquindo_session_len() -> int:
+    """How many bytes a session has."""
+    return library().malquindo_session_len()
+
+
+def malquindo_open(rights: Buffer, session: Written) -> int:
+    """Writes a session into its buffer. The result is refusal * 2^32."""
+    return call(library().malquindo_open, read('rights', rights), written('session', session))
+
+
+def malquindo_command(image: Written, session: Written, command: Buffer, response: Written) -> int:
+    """One command. The result is refusal * 2^32 + length * 2^16 + status."""
+    return call(library().malquindo_command, written('image', image), written('session', session), read('command', command),
+                written('response', response))
+
+
+def malquindo_move(old: Buffer, rooms: Buffer, target: Written) -> int:
+    """A move. The result is refusal * 2^32 + the length of the new image. `rooms` is the header's list, 6 bytes for each section."""
+    return call(library().malquindo_move, read('old', old), read('rooms', rooms), written('target', target))
+
+
+def malquindo_refusal(result: int) -> int:
+    """Of every function: the refusal, 0 for none."""
+    return result >> 32
+
+
+def malquindo_length(result: int) -> int:
+    """Of a command: the length of the answer, with the status word."""
+    return result >> 16 & 0xFFFF
+
+
+def malquindo_status(result: int) -> int:
+    """Of a command: the status word."""
+    return result & 0xFFFF
+
+
+def malquindo_moved(result: int) -> int:
+    """Of a move: the length of the new image."""
+    return result & 0xFFFFFFFF
+
+
+def accept(result: int) -> int:
+    """The result of a call that is not refused."""
+    if malquindo_refusal(result):
+        raise Refused(malquindo_refusal(result))
+    return result
+
+
+def room(pair: Tuple[int, int]) -> Tuple[int, int]:
+    kind, length = pair
+    if not (isinstance(kind, int) and isinstance(length, int)):
+        raise TypeError(f'a room is a kind and a length, both int, not {pair!r}')
+    if not (0 <= kind < 1 << 16 and 0 <= length < 1 << 32):
+        raise ValueError(f'a kind has 2 bytes and a length has 4, unlike {pair!r}')
+    return kind, length
+
+
+def whole_view(name: str, buffer: Buffer) -> memoryview:
+    """A view of a buffer whose bytes lie side by side. It has `nbytes` of them, whatever its elements are."""
+    if not isinstance(buffer, (bytes, bytearray, memoryview)):
+        raise TypeError(f'{name}: bytes, bytearray or memoryview is needed, not {type(buffer).__name__}')
+    view = memoryview(buffer)
+    if not view.c_contiguous:
+        raise TypeError(f'{name}: the bytes of this memoryview do not lie side by side')
+    return view
+
+
+class Lent(NamedTuple):
+    """A buffer as the library gets it."""
+    name: str
+    array: ctypes.Array
+    length: int
+
+    def overlaps(self, other: Lent) -> bool:
+        start, other_start = ctypes.addressof(self.array), ctypes.addressof(other.array)
+        return start < other_start + other.length and other_start < start + self.length
+
+
+def read(name: str, buffer: Buffer) -> Lent:
+    """A buffer that is only read. The library gets a copy, which overlaps nothing."""
+    view = whole_view(name, buffer)
+    return Lent(name, (ctypes.c_ubyte * view.nbytes).from_buffer_copy(view) if view.nbytes else NOTHING, view.nbytes)
+
+
+def written(name: str, buffer: Written) -> Lent:
+    """A buffer that the library may write. While it is lent, Python lets nobody resize it."""
+    view = whole_view(name, buffer)
+    if view.readonly:
+        raise TypeError(f'{name}: this buffer is written, so a {type(buffer).__name__} that is only read does not do')
+    return Lent(name, (ctypes.c_ubyte * view.nbytes).from_buffer(view) if view.nbytes else NOTHING, view.nbytes)
+
+
+# What stands for a buffer of no bytes: a pointer must not be null, even then.
+NOTHING = (ctypes.c_ubyte * 1)()
+
+
+def call(function: ctypes._CFuncPtr, *lent: Lent) -> int:
+    """Calls a function of the header with pointer and length of each buffer."""
+    for i, one in enumerate(lent):
+        for other in lent[:i]:
+            if one.overlaps(other):
+                raise ValueError(f'{other.name} and {one.name} overlap')
+    return function(*(argument for one in lent for argument in (one.array, one.length)))
+
+
+# For each function how many buffers it takes.
+FUNCTIONS = {'malquindo_open': 2, 'malquindo_command': 4, 'malquindo_move': 3}
+
+
+@functools.lru_cache(maxsize=None)
+def library() -> ctypes.PyDLL:
+    """The shared object, loaded at the first call. A PyDLL keeps Python's lock, so no other thread changes a buffer during a call."""
+    loaded = ctypes.PyDLL(str(shared_object()))
+    loaded.malquindo_session_len.argtypes = []
+    loaded.malquindo_session_len.restype = ctypes.c_size_t
+    for name, buffers in FUNCTIONS.items():
+        function = getattr(loaded, name)
+        function.argtypes = [ctypes.POINTER(ctypes.c_ubyte), ctypes.c_size_t] * buffers
+        function.restype = ctypes.c_uint64
+    return loaded
+
+
+def shared_object() -> pathlib.Path:
+    """The shared object to load. One that is older than the archive would test a program of the past."""
+    if os.environ.get(VARIABLE):
+        return pathlib.Path(os.environ[VARIABLE])
+    if not SHARED.exists():
+        raise FileNotFoundError(f'{SHARED} is not there; in the root of the repository run: {BUILD}')
+    if ARCHIVE.exists() and SHARED.stat().st_mtime < ARCHIVE.stat().st_mtime:
+        raise FileNotFoundError(f'{SHARED} is older than the archive; in the root of the repository run: {BUILD}')
+    return SHARED
+
+
+def build(archive: pathlib.Path = ARCHIVE, shared: pathlib.Path = SHARED) -> str:
+    """Makes the shared object from the archive. Gives what went wrong, '' where nothing did."""
+    if not archive.exists():
+        return f'{archive} is not there; in the root of the repository run: rt staticlib malquindo'
+    # The new object takes the place of the old one when it is whole: a program that has the old one loaded keeps it.
+    new = shared.with_suffix('.new')
+    link = ['cc', '-shared', '-o', new, '-Wl,-z,noexecstack', '-Wl,--whole-archive', archive, '-Wl,--no-whole-archive']
+    try:
+        linked = subprocess.run(link, capture_output=True, text=True)
+    except OSError as error:
+        return f'cc, the C compiler, cannot be run: {error}'
+    if linked.returncode:
+        return f'cc could not link {archive}:\n{linked.stderr}'
+    new.replace(shared)
+    return ''
+
+
+def main(arguments: list[str]) -> int:
+    if arguments != ['build']:
+        print(f'usage: {BUILD}', file=sys.stderr)
+        return 1
+    wrong = build()
+    print(wrong or f'made {SHARED}', file=sys.stderr if wrong else sys.stdout)
+    return 1 if wrong else 0
+
+
+if __name__ == '__main__':
+    sys.exit(main(sys.argv[1:]))

@@ -1,0 +1,276 @@
+#!/usr/bin/env python3
+"""Edge cases of malquindo.py, and its doctest: python3 host/python/test_malquindo.py"""
+import array
+import ctypes
+import doctest
+import pathlib
+import random
+import subprocess
+import sys
+import tempfile
+import threading
+import unittest
+
+sys.dont_write_bytecode = True     # no files beside the module
+sys.path.insert(0, str(pathlib.Path(__file__).resolve().parent))
+import malquindo
+from malquindo import Refusal
+
+ALL_RIGHTS = b'\xFF' * malquindo.RIGHTS_LEN
+TRAVEL = [(0x0101, 40), (0x0102, 40), (0x011A, 40)]
+SELECT = bytes.fromhex('00A4040C07A0000002472001')
+# The table of docs/RULES.md, T1.
+WORKED = [
+    ('00A4040C07A0000002472001', '9000'),
+    ('00E20008065F4403555341', '9000'),
+    ('00E20008065F4403465241', '9000'),
+    ('00B20105000000', '5F44035553415F4403465241 9000'),
+    ('00B20304000000', '6A83'),
+    ('00A200F81C7F7619510101A10B800100B006020103020103A307B105810346524100', '7F7606510101020102 9000'),
+    ('00A200F81C7F7619510101A10B800100B006020102020103A307B105810346524100', '6282'),
+    ('805E0107045102010100', '7F7809810122820100830102 9000'),
+    ('00E2000815' + '07' * 21, '6A84'),
+    ('00E2000814' + '07' * 20, '9000'),
+    ('00E20008000188' + '07' * 392, '6700'),
+    ('00E20008000187' + '07' * 391, '6A84'),
+    ('00B2010400', '6700'),
+]
+
+
+def load_tests(loader, tests, pattern):
+    tests.addTests(doctest.DocTestSuite(malquindo))
+    return tests
+
+
+class Case(unittest.TestCase):
+    def setUp(self):
+        self.image = malquindo.move_card(b'', TRAVEL)
+        self.session = malquindo.open(ALL_RIGHTS)
+
+    def refused(self, refusal, function, *arguments):
+        with self.assertRaises(malquindo.Refused) as caught:
+            function(*arguments)
+        self.assertIs(caught.exception.refusal, refusal)
+
+    def answers(self, result, refusal):
+        """A refused call says nothing but its number."""
+        self.assertEqual(result, refusal << 32)
+
+
+class Worked(Case):
+    def test_the_card_to_try(self):
+        for command, answer in WORKED:
+            self.assertEqual(str(malquindo.command(self.image, self.session, bytes.fromhex(command))), answer, command)
+
+    def test_only_9000_changes(self):
+        numbers = random.Random(1)
+        done = 0
+        for _ in range(3000):
+            command = bytearray.fromhex(numbers.choice(WORKED)[0])
+            if numbers.random() < 0.5:
+                command[numbers.randrange(len(command))] ^= 1 << numbers.randrange(8)
+            before = bytes(self.image), bytes(self.session)
+            answer = malquindo.command(self.image, self.session, command)
+            if answer.status == 0x9000:
+                done += 1
+            else:
+                self.assertEqual((bytes(self.image), bytes(self.session)), before)
+        self.assertGreater(done, 100)
+
+    def test_a_missing_flag_closes_the_application(self):
+        rights = bytearray(ALL_RIGHTS)
+        rights[20] = 0xFE
+        self.assertEqual(malquindo.command(self.image, malquindo.open(rights), SELECT), (b'', 0x6982))
+
+
+class Empty(Case):
+    def test_no_bytes_are_a_card(self):
+        self.assertEqual(malquindo.command(bytearray(), self.session, SELECT), (b'', 0x6A82))
+        self.assertEqual(malquindo.command(memoryview(bytearray()), self.session, SELECT), (b'', 0x6A82))
+        self.assertEqual(malquindo.move_card(b'', []), b'')
+
+    def test_no_bytes_are_a_command(self):
+        for empty in (b'', bytearray(), memoryview(b''), memoryview(b'abc')[3:]):
+            self.assertEqual(malquindo.command(self.image, self.session, empty), (b'', 0x6700))
+
+    def test_no_bytes_are_no_session_and_no_rights(self):
+        self.refused(Refusal.BAD_SESSION, malquindo.command, self.image, bytearray(), SELECT)
+        self.refused(Refusal.BAD_RIGHTS, malquindo.open, b'')
+        self.answers(malquindo.malquindo_open(ALL_RIGHTS, bytearray()), Refusal.BAD_SESSION)
+
+    def test_every_buffer_empty(self):
+        self.answers(malquindo.malquindo_open(b'', bytearray()), Refusal.BAD_RIGHTS)
+        self.answers(malquindo.malquindo_command(bytearray(), bytearray(), b'', bytearray()), Refusal.SHORT_BUFFER)
+        self.assertEqual(malquindo.malquindo_move(b'', b'', bytearray()), 0)
+
+
+class Short(Case):
+    def test_a_short_response(self):
+        response = bytearray(b'\xA5' * (malquindo.RESPONSE_LEN - 1))
+        self.answers(malquindo.malquindo_command(self.image, self.session, SELECT, response), Refusal.SHORT_BUFFER)
+        self.assertEqual(response, b'\xA5' * (malquindo.RESPONSE_LEN - 1))
+
+    def test_bytes_behind_the_answer_stay(self):
+        response = bytearray(b'\xA5' * malquindo.RESPONSE_LEN)
+        result = malquindo.malquindo_command(self.image, self.session, SELECT, response)
+        self.assertEqual((malquindo.malquindo_refusal(result), malquindo.malquindo_length(result), malquindo.malquindo_status(result)),
+                         (0, 2, 0x9000))
+        self.assertEqual(response, b'\x90\x00' + b'\xA5' * (malquindo.RESPONSE_LEN - 2))
+
+    def test_short_rights_open_a_session_without_rights(self):
+        session = bytearray(b'\xA5' * 27)
+        self.answers(malquindo.malquindo_open(ALL_RIGHTS[1:], session), Refusal.BAD_RIGHTS)
+        self.assertEqual(session, bytes(malquindo.SESSION_LEN) + b'\xA5' * 2)
+        self.refused(Refusal.BAD_RIGHTS, malquindo.open, ALL_RIGHTS + b'\xFF')
+
+
+class Sessions(Case):
+    def test_the_length_is_the_librarys(self):
+        self.assertEqual(malquindo.malquindo_session_len(), malquindo.SESSION_LEN)
+        self.assertEqual(len(self.session), malquindo.SESSION_LEN)
+
+    def test_malformed(self):
+        for at, byte in ((20, 4), (21, 3), (22, 1), (24, 1)):
+            session = bytearray(self.session)
+            session[at] = byte
+            before = bytes(session)
+            self.refused(Refusal.BAD_SESSION, malquindo.command, self.image, session, SELECT)
+            self.assertEqual(session, before)
+        self.refused(Refusal.BAD_SESSION, malquindo.command, self.image, self.session[1:], SELECT)
+
+    def test_one_that_does_not_fit_the_image(self):
+        malquindo.command(self.image, self.session, SELECT)
+        self.refused(Refusal.BAD_SESSION, malquindo.command, bytearray(), self.session, SELECT)
+
+    def test_bytes_behind_it_stay(self):
+        session = self.session + b'\xA5' * 3
+        self.assertEqual(malquindo.command(self.image, session, SELECT).status, 0x9000)
+        self.assertEqual((session[20], session[25:]), (1, b'\xA5' * 3))
+
+
+class Buffers(Case):
+    def test_wrong_types(self):
+        for wrong in ('00A4', 7, None, [0, 1], array.array('B', SELECT)):
+            for arguments in ((wrong, self.session, SELECT), (self.image, wrong, SELECT), (self.image, self.session, wrong)):
+                self.assertRaises(TypeError, malquindo.command, *arguments)
+            self.assertRaises(TypeError, malquindo.open, wrong)
+            self.assertRaises(TypeError, malquindo.move_card, wrong, TRAVEL)
+
+    def test_what_is_written_is_not_only_read(self):
+        for wrong in (bytes(self.image), memoryview(bytes(self.image)), memoryview(self.image).toreadonly(), b''):
+            self.assertRaises(TypeError, malquindo.command, wrong, self.session, SELECT)
+        self.assertRaises(TypeError, malquindo.malquindo_open, ALL_RIGHTS, bytes(25))
+
+    def test_bytes_that_do_not_lie_side_by_side(self):
+        wide = bytearray(2 * len(self.image))
+        self.assertRaises(TypeError, malquindo.command, memoryview(wide)[::2], self.session, SELECT)
+        self.assertRaises(TypeError, malquindo.command, self.image, self.session, memoryview(SELECT)[::-1])
+
+    def test_overlap(self):
+        both = bytearray(4096)
+        view = memoryview(both)
+        self.assertRaises(ValueError, malquindo.malquindo_command, both, self.session, SELECT, both)
+        self.assertRaises(ValueError, malquindo.malquindo_command, view[:0x800], view[0x7FF:0x820], SELECT, bytearray(2050))
+        # Side by side is no overlap; what is only read is copied.
+        self.answers(malquindo.malquindo_command(view[:5], view[5:30], view[:9], view[30:2080]), Refusal.BAD_IMAGE)
+
+    def test_parts_of_a_buffer(self):
+        shelf = bytearray(b'\xA5' * 8) + self.image + b'\xA5' * 8
+        part = memoryview(shelf)[8:-8]
+        for command, answer in WORKED:
+            self.assertEqual(str(malquindo.command(part, memoryview(self.session), memoryview(bytes.fromhex(command)))), answer)
+        self.assertEqual((shelf[:8], shelf[-8:]), (b'\xA5' * 8, b'\xA5' * 8))
+        self.assertEqual(shelf[14], 3)
+
+    def test_the_length_is_counted_in_bytes(self):
+        image = array.array('H', bytes(self.image))
+        view = memoryview(image)
+        self.assertEqual((view.nbytes, len(view)), (138, 69))
+        self.assertEqual(malquindo.command(view, self.session, SELECT).status, 0x9000)
+        foreign = memoryview(ctypes.create_string_buffer(bytes(self.image), 138))
+        self.assertEqual(malquindo.command(foreign, self.session, SELECT).status, 0x9000)
+
+    def test_buffers_are_given_back(self):
+        self.refused(Refusal.BAD_IMAGE, malquindo.command, bytearray(1), self.session, SELECT)
+        malquindo.command(self.image, self.session, SELECT)
+        self.image.append(0)
+        self.session.clear()
+
+    def test_threads(self):
+        """Threads that share a card: each append answered 9000 is there."""
+        image = malquindo.move_card(b'', [(0x0101, 2000), (0x0102, 2), (0x011A, 2)])
+        malquindo.command(image, self.session, SELECT)
+        session, answers = bytes(self.session), []
+
+        def append():
+            for _ in range(60):
+                answers.append(malquindo.command(image, bytearray(session), bytes.fromhex('00E200080155')).status)
+        threads = [threading.Thread(target=append) for _ in range(4)]
+        for thread in threads:
+            thread.start()
+        for thread in threads:
+            thread.join()
+        self.assertEqual((answers.count(0x9000), image[6]), (240, 240))
+
+
+class Moves(Case):
+    def test_every_number_stays(self):
+        for command, _ in WORKED:
+            malquindo.command(self.image, self.session, bytes.fromhex(command))
+        new = malquindo.move_card(self.image, [(0x0101, 100), (0x0102, 50), (0x011A, 40), (0x0203, 2), (0x021A, 2)])
+        self.assertEqual(len(new), 194 + 5 * 6)
+        self.assertEqual(new[6:46], self.image[6:46])
+        self.assertEqual(malquindo.command(new, self.session, bytes.fromhex('00B2020C000000')), (b'_D\x03FRA', 0x9000))
+        self.assertEqual(malquindo.move_card(new, [(0x0101, 40), (0x0102, 40), (0x011A, 40), (0x0203, 2), (0x021A, 2)])[:138], self.image)
+
+    def test_refusals(self):
+        held = bytes([5, 0, 0, 0, 0x1A, 0x03, 1, 0, 1, 0, 7])
+        self.refused(Refusal.BAD_IMAGE, malquindo.move_card, held[1:], [(0x031A, 5)])
+        self.refused(Refusal.BAD_LIST, malquindo.move_card, held, [(0x031A, 5), (0x031A, 5)])
+        self.refused(Refusal.BAD_LIST, malquindo.move_card, held, [(0x0101, 5), (0x031A, 5)])
+        self.refused(Refusal.BAD_LIST, malquindo.move_card, held, [(0x031A, malquindo.IMAGE_LEN - 5)])
+        self.refused(Refusal.MISSING_KIND, malquindo.move_card, held, [])
+        self.refused(Refusal.SMALL_ROOM, malquindo.move_card, held, [(0x031A, 4)])
+        self.assertEqual(len(malquindo.move_card(held, [(0x031A, malquindo.IMAGE_LEN - 6)])), malquindo.IMAGE_LEN)
+
+    def test_a_short_target(self):
+        target = bytearray(b'\xA5' * 8)
+        row = bytes([2, 0, 0, 0, 0x1A, 0x03])
+        self.answers(malquindo.malquindo_move(b'', row, memoryview(target)[1:]), Refusal.SHORT_TARGET)
+        self.answers(malquindo.malquindo_move(b'', row[1:], target), Refusal.BAD_LIST)
+        self.assertEqual(target, b'\xA5' * 8)
+        result = malquindo.malquindo_move(b'', row, target)
+        self.assertEqual((malquindo.malquindo_moved(result), target), (8, row + bytes(2)))
+
+    def test_rooms(self):
+        for wrong in ([('0101', 40)], [(0x0101, 40.0)], [7], 7):
+            self.assertRaises(TypeError, malquindo.move_card, b'', wrong)
+        for wrong in ([(0x10000, 2)], [(-1, 2)], [(0x0101, 1 << 32)], [(1, 2, 3)]):
+            self.assertRaises(ValueError, malquindo.move_card, b'', wrong)
+
+
+class Refusals(Case):
+    def test_the_numbers(self):
+        self.assertEqual(sorted(Refusal), [1, 2, 3, 4, 10, 11, 12, 13])
+        self.assertEqual(malquindo.accept(0x29000), 0x29000)
+        self.assertEqual(set(malquindo.REASONS), set(Refusal))
+        self.assertEqual(malquindo.Refused(99).refusal, 99)
+
+
+class Build(unittest.TestCase):
+    def test_no_archive(self):
+        with tempfile.TemporaryDirectory() as folder:
+            archive = pathlib.Path(folder) / 'libmalquindo.a'
+            self.assertIn('rt staticlib malquindo', malquindo.build(archive, archive.with_suffix('.so')))
+            archive.write_bytes(b'no archive')
+            self.assertIn('cc could not link', malquindo.build(archive, archive.with_suffix('.so')))
+            self.assertFalse(archive.with_suffix('.so').exists())
+
+    def test_usage(self):
+        run = subprocess.run([sys.executable, malquindo.__file__], capture_output=True, text=True)
+        self.assertEqual((run.returncode, run.stdout), (1, ''))
+        self.assertIn('malquindo.py build', run.stderr)
+
+
+if __name__ == '__main__':
+    unittest.main()
