@@ -183,9 +183,9 @@ def rights(c):
     several = [("travel", ["read", "append"]), ("visa", ["read"]), ("biometrics5", ["write"])]
     every = ([(name, [r]) for name in ("travel", "visa") for r in RECORD_RIGHTS] + [("biometrics", [r]) for r in RECORD_RIGHTS[2:]]
              + [(name, []) for name in ("travel", "visa", "biometrics")])
-    files = [[("biometrics", []), (f"biometrics{n}", [r])] for n in range(1, 65) for r in FILE_RIGHTS]
-    both = [("biometrics", []), ("biometrics64", ["read", "write"])]
-    for granted in [*([right] for right in every), *files, [several[0], several[1], ("biometrics", []), several[2]], both]:
+    files = [[(f"biometrics{n}", [r])] for n in range(1, 65) for r in FILE_RIGHTS]
+    both = [("biometrics64", ["read", "write"])]
+    for granted in [*([right] for right in every), *files, several, both]:
         said = "= rights: " + in_words(granted)
         c.says("open " + certificate(granted).hex() * 3, OPENED)
         c.says("rights", said)
@@ -193,7 +193,7 @@ def rights(c):
         c.says("rights", said)
     # to name a file names its application; any order, any spaces; `all` of a name
     c.says(" open  biometrics5=write visa=read\ttravel=append,read  # words", OPENED)
-    c.says("rights", "= rights: travel=read,append visa=read biometrics biometrics5=write")
+    c.says("rights", "= rights: travel=read,append visa=read biometrics5=write")
     c.says("open travel=all biometrics=all biometrics7=all none", OPENED)
     c.says("rights", "= rights: travel=" + ",".join(RECORD_RIGHTS) + " biometrics=" + ",".join(RECORD_RIGHTS[2:]) + " biometrics7=read,write")
     for granted, reads, appends in (("travel=read", RECORDS[0] + "9000", "6982"), ("travel=append", "6982", "9000"), ("travel", "6982", "6982")):

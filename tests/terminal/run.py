@@ -271,15 +271,17 @@ def test_stops(folder, stops, rng):
             plan.append((kind, record))
     stdin = "\n".join(lines).encode() + b"\n"
     empty = card({kind: bytes(20000) for kind in (*kinds, 0x021A)})
-    whole = timed(folder, write(folder, "whole.card", empty), stdin)
+    size, pause = timed(folder, write(folder, "whole.card", empty), stdin)
+    write(folder, "input", stdin)
     amid, further = 0, 0
     while amid < stops:
         name = write(folder, "stopped.card", empty)
-        with open(os.path.join(folder, "input"), "wb") as f:
-            f.write(stdin)
         with open(os.path.join(folder, "input"), "rb") as f, open(os.path.join(folder, "output"), "wb") as out:
             p = subprocess.Popen([PROGRAM, name], cwd=folder, stdin=f, stdout=out)
-            time.sleep(rng.uniform(0, whole))
+            goal = rng.randrange(size)
+            while os.fstat(out.fileno()).st_size < goal and p.poll() is None:
+                pass
+            time.sleep(rng.uniform(0, pause))
             p.send_signal(signal.SIGKILL)
             p.wait()
         output = read(folder, "output")
@@ -290,10 +292,11 @@ def test_stops(folder, stops, rng):
         assert [(kind, len(body)) for kind, body in found.items()] == [(kind, len(body)) for kind, body in bodies(empty).items()]
         held = {kind: records(body) for kind, body in found.items()}
         assert held in (appended(plan, empty, answered), appended(plan, empty, answered + 1)), f"{answered} answered"
+        assert run(folder, b"", name) == (0, "", ""), "the stopped card is not well formed"
         if 0 < answered < len(plan):
             amid += 1
             further += held != appended(plan, empty, answered)
-    return f"{amid} stops amid the appends, which take {whole:.2f} s; {further} times the file had the next record, too"
+    return f"{amid} stops amid the appends; {further} times the file had the next record, too"
 
 
 def appended(plan, empty, steps):
@@ -306,10 +309,11 @@ def appended(plan, empty, steps):
 
 
 def timed(folder, name, stdin):
+    """How much a run that is not stopped writes, and how long two of its commands take."""
     began = time.monotonic()
     status, out, err = run(folder, stdin, name)
     assert (status, err) == (0, "") and out.count("Normal processing") == 1002, (status, err)
-    return time.monotonic() - began
+    return len(out), (time.monotonic() - began) / 500
 
 
 def test_script(folder):

@@ -272,6 +272,17 @@ fn tell_file(session: &[u8], n: usize) {
     }
 }
 
+// Writes what a session may do in the biometrics application. The name alone is left out where a file's name says it, too.
+fn tell_biometrics(session: &[u8], flag: usize) {
+    let value = base::byte(session, 3);
+    if value == 0 {
+        if !text::starts(base::part(session, 4, 16), &[0; 16]) {
+            return;
+        }
+    }
+    tell_application(b" biometrics", CERTIFICATES, flag, value);
+}
+
 // Writes what a session may do with biometrics files.
 fn tell_files(session: &[u8]) {
     let mut n = 0;
@@ -322,12 +333,7 @@ pub(crate) fn tell(session: &[u8]) {
     }
     tell_application(b" travel", RECORDS, flags, base::byte(session, 1));
     tell_application(b" visa", RECORDS, flags / 2, base::byte(session, 2));
-    tell_application(
-        b" biometrics",
-        CERTIFICATES,
-        flags / 4,
-        base::byte(session, 3),
-    );
+    tell_biometrics(session, flags / 4);
     tell_files(session);
     program_console::end();
 }
