@@ -1,8 +1,11 @@
 #!/usr/bin/env python3
-"""Makes what the program `program_terminal` is run on, and what it must write: crates/program_terminal/stdin and stdout.
+"""Makes what the program `program_terminal` is run on, and what it must write: crates/program_terminal/stdin, stdout, args and data/.
 
-The input is demo/worked.apdu, the card to try of docs/RULES.md, then lines that cannot be read, other rights, what the card holds and
-moves. The answers to the commands are the ones that the source of the rules prints; the words of a status are those of the table below.
+The card is the card to try of docs/RULES.md, in a file. The input is demo/worked.apdu, then lines that cannot be read, rights in
+hexadecimal and in words, where the session stands, help, long lines, what the card holds, and moves. The answers to the commands are the
+ones that the source of the rules prints; the rights follow section B of the rules; the words are those of the tables below.
+
+The gate compares standard output alone. `run.py` beside this file compares standard error and the exit status, too.
 
 usage: python3 tests/terminal/cases.py
 """
@@ -10,12 +13,14 @@ import os
 
 HERE = os.path.dirname(os.path.abspath(__file__))
 ROOT = os.path.join(HERE, "..", "..")
+CRATE = os.path.join(ROOT, "crates", "program_terminal")
 
 WORDS = {
     "9000": "Normal processing",
     "6282": "No record matches",
     "6700": "Wrong length",
     "6982": "Security status not satisfied",
+    "6A82": "File or application not found",
     "6A83": "Record not found",
     "6A84": "Not enough memory space in the file",
     "6E00": "Class not supported",
@@ -24,7 +29,46 @@ WORDS = {
 ANSWERS = ["9000", "9000", "9000", "5F44035553415F44034652419000", "6A83", "7F76065101010201029000", "6282",
            "7F78098101228201008301029000", "6A84", "9000", "6700"]
 
-stdin, stdout = [], []
+RECORDS = ["5F4403555341", "5F4403465241", "".join(f"{i:02X}" for i in range(20))]
+
+CANNOT = "! this line cannot be read, and nothing is changed: "
+TOO_LONG = "! this line is longer than 65,536 bytes, and nothing is changed"
+OPENED = "= session opened"
+MOVED = "= moved to a new file"
+
+# the longest line that is read, and more input than the room for an image has
+LINE = 65536
+MUCH = 524288
+
+HELP = """\
+Each line is answered. Spaces may stand anywhere in hexadecimal; # starts a comment.
+  00 B2 01 0C 00 00 00        a command, in hexadecimal
+  open all                    opens a session with every right; `open none` with none
+  open travel=read,append visa=read biometrics5=write
+                              opens a session with what a certificate would grant
+  open FFFF ... FF            opens a session with three certificates, 60 bytes in hexadecimal
+  rights                      says what the session may do
+  session                     says the session's application, file and record
+  show                        lists what the card holds
+  move new.card 0101 100 0102 50 011A 40
+                              writes the card with other rooms into a new file
+  help                        writes this
+What `open` grants, one word or more:
+  travel, visa, biometrics    to select the application; each word below does that, too
+  travel=, visa=              read, append, read-certificates, append-certificates, all
+  biometrics=                 read-certificates, append-certificates, all
+  biometrics1= to 64=         write (while Deactivated), read (while Activated), all
+The card's file holds each change before the answer is written. Messages that begin with ! go to standard error.
+Exit status: 0 every line was read and the card is kept; 1 a line could not be read or was refused; 2 no card.
+""".split("\n")[:-1]
+
+
+def section(kind, body):
+    return len(body).to_bytes(4, "little") + kind.to_bytes(2, "little") + body
+
+
+def to_try():
+    return b"".join(section(kind, bytes(40)) for kind in (0x0101, 0x0102, 0x011A))
 
 
 def spaced(text):
@@ -32,15 +76,56 @@ def spaced(text):
     return " ".join(text[i:i + 2] for i in range(0, len(text), 2)).upper()
 
 
-def command(line, answer):
-    stdin.append(line)
-    stdout.append("> " + spaced(line.split("#")[0].strip()))
-    stdout.append("< " + spaced(answer) + " : " + WORDS[answer[-4:]])
+# section B of the rules: the bits of the rights, in the order in which the terminal says them
+RECORD_RIGHTS = ["read", "append", "read-certificates", "append-certificates"]
+FILE_RIGHTS = ["write", "read"]      # while the file is Deactivated, while it is Activated
 
 
-def says(line, *lines):
-    stdin.append(line)
-    stdout.extend(lines)
+def certificate(rights):
+    """The 20 bytes that grant a list of (name, rights)."""
+    c = bytearray(20)
+    for name, granted in rights:
+        if name in ("travel", "visa"):
+            at = 1 + ("travel", "visa").index(name)
+            c[0] |= at                                            # B2: b1, b2
+            for right in granted:
+                c[at] |= 1 << RECORD_RIGHTS.index(right)          # B7
+        elif name == "biometrics":
+            c[0] |= 4
+            for right in granted:
+                c[3] |= 1 << RECORD_RIGHTS.index(right) - 2       # B8
+        else:
+            n = int(name[len("biometrics"):])
+            i = (n - 1) % 4
+            c[0] |= 4
+            for right in granted:                                 # B9: byte 2 + (n - 1) div 4, counted from 1, of the 17 from byte 3 on
+                bit = 8 - 2 * i if right == "write" else 7 - 2 * i
+                c[3 + 2 + (n - 1) // 4 - 1] |= 1 << bit - 1
+    return bytes(c)
+
+
+def in_words(rights):
+    return " ".join(name + ("=" + ",".join(granted) if granted else "") for name, granted in rights)
+
+
+class Cases:
+    """The lines of the input and what is answered: standard output and standard error."""
+
+    def __init__(self):
+        self.stdin, self.stdout, self.stderr = [], [], []
+
+    def command(self, line, answer):
+        self.stdin.append(line)
+        self.stdout.append("> " + spaced(line.split("#")[0].strip()))
+        self.stdout.append("< " + spaced(answer) + " : " + WORDS[answer[-4:]])
+
+    def says(self, line, *lines):
+        self.stdin.append(line)
+        for answer in lines:
+            (self.stderr if answer.startswith("!") else self.stdout).append(answer)
+
+    def cannot(self, line):
+        self.says(line, CANNOT + line)
 
 
 def shown(*records, rooms=(40, 40, 40), visa=()):
@@ -55,59 +140,135 @@ def shown(*records, rooms=(40, 40, 40), visa=()):
     return [f"card image of {sum(6 + room for room in (*rooms, *visa))} bytes", " travel", *files]
 
 
-RECORDS = ["5F4403555341", "5F4403465241", "".join(f"{i:02X}" for i in range(20))]
+def worked(c):
+    """The worked case, as it is given to a new user; where the session stands on the way."""
+    answers = iter(ANSWERS)
+    c.says("session", "= session: master file, no file")
+    c.says("rights", "= rights: all")
+    with open(os.path.join(ROOT, "demo", "worked.apdu")) as f:
+        for line in f.read().split("\n")[:-1]:
+            text = line.split("#")[0].strip()
+            if text == "show":
+                c.says(line, *shown(*RECORDS))
+            elif text:
+                c.command(line, next(answers))
+            else:
+                c.stdin.append(line)
+    c.says("session", "= session: travel, EntryRecords, record 3")
+    # small letters, no spaces, a tab; a class that there is not
+    c.command("00b20104000000", RECORDS[0] + "9000")
+    c.command("\t10 B2 01 04 00 00 00", "6E00")
+    c.says("session # as before", "= session: travel, EntryRecords, record 3")
 
-# the worked case, as it is given to a new user
-answers = iter(ANSWERS)
-with open(os.path.join(ROOT, "demo", "worked.apdu")) as f:
-    for line in f.read().split("\n")[:-1]:
-        text = line.split("#")[0].strip()
-        if text == "show":
-            says(line, *shown(*RECORDS))
-        elif text:
-            command(line, next(answers))
-        else:
-            stdin.append(line)
 
-# small letters, no spaces, a tab; a class that there is not
-command("00b20104000000", RECORDS[0] + "9000")
-command("\t10 B2 01 04 00 00 00", "6E00")
+def unreadable(c):
+    """What cannot be read changes nothing."""
+    for line in ("00 B2 01 04 00 00 0", "READ RECORD", "open zz", "show all", "helpme", "open trave=read", "open travel=write",
+                 "open travel=read,", "open travel=", "open =read", "open biometrics=read", "open biometrics0=read",
+                 "open biometrics65=read", "open biometrics5", "open biometrics5=append", "open biometrics5=read read", "open ALL"):
+        c.cannot(line)
+    c.says("rights", "= rights: all")
+    c.says("show", *shown(*RECORDS))
 
-# what cannot be read changes nothing
-CANNOT = "! this line cannot be read, and nothing is changed: "
-says("00 B2 01 04 00 00 0", CANNOT + "00 B2 01 04 00 00 0")
-says("READ RECORD", CANNOT + "READ RECORD")
-says("open zz", CANNOT + " zz")
 
-# rights that are not 60 bytes; none at all; all of them again
-says("open 00", "! refused (3): rights are 60 bytes, three certificates of 20")
-says("open " + "00" * 60, "= session opened")
-command("00A4040C07A0000002472001", "6982")
-says("open " + "FF" * 60, "= session opened")
-command("00A4040C07A0000002472001", "9000")
-says("show", *shown(*RECORDS))
+def rights(c):
+    """Rights that are not 60 bytes; none; all; each right by itself, in hexadecimal and in words; several; and what they allow."""
+    c.says("open 00", "! refused (3): rights are 60 bytes, three certificates of 20")
+    c.says("rights", "= rights: none")
+    select, read, append = "00A4040C07A0000002472001", "00B2010C000000", "00E200100177"      # EntryRecords is read, ExitRecords gets 77
+    for none in ("00" * 60, "none"):
+        c.says("open " + none, OPENED)
+        c.says("rights", "= rights: none")
+        c.command(select, "6982")
+    several = [("travel", ["read", "append"]), ("visa", ["read"]), ("biometrics5", ["write"])]
+    every = ([(name, [r]) for name in ("travel", "visa") for r in RECORD_RIGHTS] + [("biometrics", [r]) for r in RECORD_RIGHTS[2:]]
+             + [(name, []) for name in ("travel", "visa", "biometrics")])
+    files = [[(f"biometrics{n}", [r])] for n in range(1, 65) for r in FILE_RIGHTS]
+    both = [("biometrics64", ["read", "write"])]
+    for granted in [*([right] for right in every), *files, several, both]:
+        said = "= rights: " + in_words(granted)
+        c.says("open " + certificate(granted).hex() * 3, OPENED)
+        c.says("rights", said)
+        c.says("open " + in_words(granted), OPENED)
+        c.says("rights", said)
+    # to name a file names its application; any order, any spaces; `all` of a name
+    c.says(" open  biometrics5=write visa=read\ttravel=append,read  # words", OPENED)
+    c.says("rights", "= rights: travel=read,append visa=read biometrics5=write")
+    c.says("open travel=all biometrics=all biometrics7=all none", OPENED)
+    c.says("rights", "= rights: travel=" + ",".join(RECORD_RIGHTS) + " biometrics=" + ",".join(RECORD_RIGHTS[2:]) + " biometrics7=read,write")
+    for granted, reads, appends in (("travel=read", RECORDS[0] + "9000", "6982"), ("travel=append", "6982", "9000"), ("travel", "6982", "6982")):
+        c.says("open " + granted, OPENED)
+        c.command(select, "9000")
+        c.command(read, reads)
+        c.command(append, appends)
+    for every_right in ("FF" * 60, "all"):
+        c.says("open " + every_right, OPENED)
+        c.says("rights", "= rights: all")
+    c.command(select, "9000")
+    c.says("session", "= session: travel, no file")
 
-# a move to larger rooms, to a file that is there then; one that adds an application; each that is refused; the card at hand stays
-MOVED = "= moved to a new file"
-says("move larger.card 0101 100 0102 50 011A 40", MOVED, *shown(*RECORDS, rooms=(100, 50, 40)))
-says("move larger.card 0101 100 0102 50 011A 40", "! the new card's file cannot be made, or is there already")
-says(" move  visa.card  0101 40\t0102 2 011a 40 0203 300 021A 200 # with visa", MOVED, *shown(*RECORDS, rooms=(40, 2, 40), visa=(300, 200)))
-says("move other.card 0102 40 0101 40 011A 40", "! refused (10): these rooms make no well-formed card")
-says("move other.card 0101 40 0102 40 011A 1", "! refused (10): these rooms make no well-formed card")
-says("move other.card 0101 40 0102 40 011A 262047", "! refused (10): these rooms make no well-formed card")
-says("move other.card", "! refused (11): a file of the card has no room")
-says("move other.card 0203 40 021A 40", "! refused (11): a file of the card has no room")
-says("move other.card 0101 39 0102 40 011A 40", "! refused (12): a room is too small for its file")
-for line in ("move", "move other.card 0101", "move other.card 0101 40 0102 40 011A forty", "move other.card 10101 40",
-             "move other.card 0101 4294967296"):
-    says(line, CANNOT + line)
-says("show", *shown(*RECORDS))
 
-# a last line that does not end
-stdin.append("00B2030C000000")
-stdout += ["> " + spaced("00B2030C000000"), "< " + spaced(RECORDS[2] + "9000") + " : Normal processing"]
+def long_input(c):
+    """A line as long as a line may be, and one that is longer; more input than there is room for an image."""
+    command = "00B2010C000000"
+    c.command(" " * (LINE - len(command)) + command, RECORDS[0] + "9000")
+    c.says("#" * (LINE + 1), TOO_LONG)
+    c.says(" " * (LINE + 1 - len(command)) + command, TOO_LONG)
+    for _ in range(MUCH // 60000):
+        c.says("#" * 60000)
+    c.command(command, RECORDS[0] + "9000")
 
-with open(os.path.join(ROOT, "crates", "program_terminal", "stdin"), "w") as f:
-    f.write("\n".join(stdin))
-with open(os.path.join(ROOT, "crates", "program_terminal", "stdout"), "w") as f:
-    f.write("\n".join(stdout) + "\n")
+
+def moves(c):
+    """A move to larger rooms, to a file that is there then; one that adds an application; each that is refused; the card at hand stays."""
+    there = "! the new card's file cannot be made: larger.card: File exists"
+    c.says("move larger.card 0101 100 0102 50 011A 40", MOVED, *shown_moved((100, 50, 40)))
+    c.says("move larger.card 0101 100 0102 50 011A 40", there)
+    c.says("move none/larger.card 0101 100 0102 50 011A 40",
+           "! the new card's file cannot be made: none/larger.card: No such file or directory")
+    c.says(" move  visa.card  0101 40\t0102 5 011a 40 0203 300 021A 200 # with visa", MOVED, *shown_moved((40, 5, 40), (300, 200)))
+    c.says("move other.card 0102 40 0101 40 011A 40", "! refused (10): these rooms make no well-formed card")
+    c.says("move other.card 0101 40 0102 40 011A 1", "! refused (10): these rooms make no well-formed card")
+    c.says("move other.card 0101 40 0102 40 011A 262047", "! refused (10): these rooms make no well-formed card")
+    c.says("move other.card", "! refused (11): a file of the card has no room")
+    c.says("move other.card 0203 40 021A 40", "! refused (11): a file of the card has no room")
+    c.says("move other.card 0101 39 0102 40 011A 40", "! refused (12): a room is too small for its file")
+    for line in ("move", "move other.card 0101", "move other.card 0101 40 0102 40 011A forty", "move other.card 10101 40",
+                 "move other.card 0101 4294967296"):
+        c.cannot(line)
+    c.says("show", *shown_moved((40, 40, 40)))
+
+
+def shown_moved(rooms, visa=()):
+    """The card behind `rights`, which appended the byte 77 to ExitRecords."""
+    lines = shown(*RECORDS, rooms=rooms, visa=visa)
+    at = next(i for i, line in enumerate(lines) if "ExitRecords" in line)
+    lines[at:at + 1] = [f"  ExitRecords             records 1 of 254, bytes left {rooms[1] - 5}", "    1: 77"]
+    return lines
+
+
+def cases():
+    c = Cases()
+    worked(c)
+    unreadable(c)
+    rights(c)
+    c.says("help", *HELP)
+    long_input(c)
+    moves(c)
+    # a last line that does not end
+    c.command("00B2030C000000", RECORDS[2] + "9000")
+    return c
+
+
+def main():
+    c = cases()
+    os.makedirs(os.path.join(CRATE, "data"), exist_ok=True)
+    for name, text in (("stdin", "\n".join(c.stdin)), ("stdout", "\n".join(c.stdout) + "\n"), ("args", "try.card\n")):
+        with open(os.path.join(CRATE, name), "w") as f:
+            f.write(text)
+    with open(os.path.join(CRATE, "data", "try.card"), "wb") as f:
+        f.write(to_try())
+
+
+if __name__ == "__main__":
+    main()

@@ -1,5 +1,5 @@
-// What programs write their answers with, to standard output: words, numbers in decimal, bytes in hexadecimal. A contract here says
-// nothing of what is written, for the logic does not speak of it; the gate compares it.
+// What programs write with: answers to standard output as words, numbers in decimal and bytes in hexadecimal, and what is wrong to standard
+// error. A contract here says nothing of what is written, for the logic does not speak of it; the gate compares the answers.
 pub mod cases;
 pub mod result;
 pub mod words;
@@ -13,6 +13,13 @@ pub fn word(s: &[u8])
     ensures { λ _. ⊤ₛ }
 {
     io::write_all(1, s);
+}
+
+// Writes a word to standard error: what is wrong, apart from the answers.
+pub fn warn(s: &[u8])
+    ensures { λ _. ⊤ₛ }
+{
+    io::write_all(2, s);
 }
 
 // Ends the line.

@@ -1,5 +1,5 @@
 // Status words and refusals in words.
-use crate::end;
+use crate::warn;
 use crate::word;
 
 // What a status word from 6981 to 6A86 means: the file or its content does not allow the command.
@@ -35,22 +35,22 @@ pub fn status(w: u64)
 // Why a call was refused.
 fn reason(number: u64) {
     match number {
-        1 => word(b"! refused (1): the response buffer is too short"),
-        2 => word(b"! refused (2): the card image is not well formed"),
-        3 => word(b"! refused (3): rights are 60 bytes, three certificates of 20"),
-        4 => word(b"! refused (4): the session does not fit the card"),
-        10 => word(b"! refused (10): these rooms make no well-formed card"),
-        11 => word(b"! refused (11): a file of the card has no room"),
-        12 => word(b"! refused (12): a room is too small for its file"),
-        13 => word(b"! refused (13): the target is too short"),
-        _ => word(b"! refused"),
+        1 => warn(b"! refused (1): the response buffer is too short"),
+        2 => warn(b"! refused (2): the card image is not well formed"),
+        3 => warn(b"! refused (3): rights are 60 bytes, three certificates of 20"),
+        4 => warn(b"! refused (4): the session does not fit the card"),
+        10 => warn(b"! refused (10): these rooms make no well-formed card"),
+        11 => warn(b"! refused (11): a file of the card has no room"),
+        12 => warn(b"! refused (12): a room is too small for its file"),
+        13 => warn(b"! refused (13): the target is too short"),
+        _ => warn(b"! refused"),
     }
 }
 
-// Writes a line that says why a call was refused.
+// Writes a line that says why a call was refused, to standard error.
 pub fn refusal(number: u64)
     ensures { λ _. ⊤ₛ }
 {
     reason(number);
-    end();
+    warn(b"\n");
 }

@@ -1,10 +1,21 @@
-// The card's image: from the file that the argument names, or the card to try; and back to that file.
+// The card: its image comes from the file that is named, which stays open to keep each change; or it is the card to try, which no file keeps.
+use crate::files;
 
-// More than there is room for: no card.
-const NONE: usize = 1000000;
+// The file of the card to try.
+const NO_FILE: i32 = -1;
+
+// The open file, and how long the image is: FAILED where there is none.
+pub(crate) struct Loaded {
+    pub(crate) fd: i32,
+    pub(crate) len: usize,
+}
+
+fn loaded_as(fd: i32, len: usize) -> Loaded {
+    Loaded { fd, len }
+}
 
 // The card to try: sections 0101, 0102, 011A, each of 40 bytes, count 0.
-fn example(out: &mut [u8]) -> usize {
+pub(crate) fn example(out: &mut [u8]) -> Loaded {
     let heads = [
         40u8,
         0,
@@ -28,54 +39,41 @@ fn example(out: &mut [u8]) -> usize {
     base::put(out, 0, base::part(&heads, 0, 6));
     base::put(out, 46, base::part(&heads, 6, 6));
     base::put(out, 92, base::part(&heads, 12, 6));
-    138
+    loaded_as(NO_FILE, 138)
 }
 
-// The image that a file holds, and how long it is.
-fn read(name: &[u8], out: &mut [u8]) -> usize {
-    let fd = os::open_read(name);
-    if fd < 0 {
-        program_console::word(b"! the card's file cannot be read\n");
-        return NONE;
-    }
-    let n = io::read_full(fd, out);
-    libc::close(fd);
-    if store_image::well_formed(base::part(out, 0, n)) {
-        return n;
-    }
-    program_console::word(b"! the file is no well-formed card image; nothing is changed\n");
-    NONE
+// Says which file cannot be used, and the system's reason.
+fn unusable(name: &[u8]) -> Loaded {
+    program_console::warn(b"! the card's file cannot be used: ");
+    os::fail(name);
+    loaded_as(NO_FILE, files::FAILED)
 }
 
-// How long the card's image is, which stands in out then; more than out holds where there is none.
-pub(crate) fn load(out: &mut [u8]) -> usize {
-    if os::arg_count() < 2 {
-        return example(out);
-    }
-    let mut name = io::buffer();
-    let n = os::arg(1, &mut name);
-    read(&name[..n], out)
+// Says that a file holds no card.
+fn no_card(name: &[u8]) -> Loaded {
+    program_console::warn(b"! the file is no well-formed card image, and nothing is changed: ");
+    program_console::warn(name);
+    program_console::warn(b"\n");
+    loaded_as(NO_FILE, files::FAILED)
 }
 
-// Writes the image back, as long as it was.
-fn write(name: &[u8], bytes: &[u8]) {
+// The card of a file that is open.
+fn read(fd: i32, name: &[u8], out: &mut [u8]) -> Loaded {
+    let n = files::whole(fd, out);
+    if n == files::FAILED {
+        return unusable(name);
+    }
+    if !store_image::well_formed(base::part(out, 0, n)) {
+        return no_card(name);
+    }
+    loaded_as(fd, n)
+}
+
+// The card of a file. It is opened to be written, too, so that a card that cannot be kept is told before its first command.
+pub(crate) fn load(name: &[u8], out: &mut [u8]) -> Loaded {
     let fd = os::open_update(name);
     if fd < 0 {
-        program_console::word(b"! the card's file cannot be written\n");
-        return;
+        return unusable(name);
     }
-    if !io::write_all(fd, bytes) {
-        program_console::word(b"! the card's file could not be written whole\n");
-    }
-    libc::close(fd);
-}
-
-// Writes the image back to the file that it came from.
-pub(crate) fn save(bytes: &[u8]) {
-    if os::arg_count() < 2 {
-        return;
-    }
-    let mut name = io::buffer();
-    let n = os::arg(1, &mut name);
-    write(&name[..n], bytes);
+    read(fd, name, out)
 }

@@ -1,193 +1,176 @@
-// The lines of the input, each answered as soon as it is whole.
+// One line of the input and its answer. Each function here that answers a line says how it ended (status.rt).
+use crate::help;
 use crate::hex;
+use crate::keep;
 use crate::listing;
 use crate::moves;
+use crate::place;
+use crate::rights;
+use crate::status;
 use crate::text;
 use program_console::result;
 use program_console::words;
-ghost use Prim.Native.Nat.{_≤_};
-ghost use lib.ListN.{length};
 
-// The place behind the line that begins at `from`; `from` where the line is not whole.
-fn line_end(s: &[u8], from: usize) -> usize
-    ensures { λ r. ⌜ from ≤ r ⌝ }
-{
-    let mut i = from;
-    while i < s.len() {
-        if base::byte(s, i) == 10 {
-            return i + 1;
-        }
-        i += 1;
-    }
-    from
+// How lines are answered: the card's open file, and whether a command is written out before its answer.
+pub(crate) struct How {
+    pub(crate) fd: i32,
+    pub(crate) echo: bool,
 }
 
 // How much of a line stands before a comment.
 fn before_comment(s: &[u8]) -> usize {
-    let mut i = 0;
-    while i < s.len() {
-        let c = base::byte(s, i);
-        if c == 35 || c == 10 {
-            return i;
-        }
-        i += 1;
-    }
-    s.len()
+    text::find(s, 0, 35)
 }
 
-// Whether s begins with a word.
-fn starts(s: &[u8], word: &[u8]) -> bool {
-    let mut i = 0;
-    while i < word.len() {
-        if base::byte(s, i) != base::byte(word, i) {
-            return false;
-        }
-        i += 1;
-    }
-    true
-}
-
-// A line that is neither hexadecimal nor a word that is known.
-fn unreadable(s: &[u8]) {
-    program_console::word(b"! this line cannot be read, and nothing is changed: ");
-    program_console::word(s);
-    program_console::end();
+// A line that is neither hexadecimal nor begins with a word that is known.
+fn unreadable(s: &[u8]) -> usize {
+    program_console::warn(b"! this line cannot be read, and nothing is changed: ");
+    program_console::warn(s);
+    program_console::warn(b"\n");
+    status::REFUSED
 }
 
 // Opens a session.
-fn open(rights: &[u8], session: &mut [u8]) {
-    let r = malquindo::malquindo_open(rights, session);
+fn open(certificates: &[u8], session: &mut [u8]) -> usize {
+    let r = malquindo::malquindo_open(certificates, session);
     if r == 0 {
         program_console::word(b"= session opened\n");
-        return;
+        return status::GOOD;
     }
     words::refusal(result::refusal(r));
+    status::REFUSED
 }
 
-// Opens a session with the certificates of a line.
-fn open_line(s: &[u8], session: &mut [u8]) {
-    let mut bytes = io::buffer();
-    let r = hex::decode(s, &mut bytes);
-    if !r.good {
-        unreadable(s);
-        return;
+// Opens a session with rights in words: three certificates that grant the same.
+fn open_words(s: &[u8], session: &mut [u8]) -> bool {
+    let mut granted = [0; 20];
+    if !rights::read(s, &mut granted) {
+        return false;
     }
-    open(base::part(&bytes, 0, r.n), session);
+    let mut chain = [0; 60];
+    base::put(&mut chain, 0, &granted);
+    base::put(&mut chain, 20, &granted);
+    base::put(&mut chain, 40, &granted);
+    open(&chain, session) == status::GOOD
+}
+
+// Opens a session with the certificates of a line, in hexadecimal or in words.
+fn open_line(s: &[u8], session: &mut [u8]) -> usize {
+    let certificates = base::part(s, 4, s.len());
+    let mut bytes = io::buffer();
+    let r = hex::decode(certificates, &mut bytes);
+    if r.good {
+        return open(base::part(&bytes, 0, r.n), session);
+    }
+    if open_words(certificates, session) {
+        return status::GOOD;
+    }
+    unreadable(s)
 }
 
 // The answer to a command: the response in hexadecimal, then what its status means.
-fn answer(r: u64, response: &[u8]) {
+fn response(r: u64, bytes: &[u8]) -> usize {
     if result::refusal(r) != 0 {
         words::refusal(result::refusal(r));
-        return;
+        return status::REFUSED;
     }
     program_console::word(b"<");
-    program_console::spell(base::part(response, 0, result::length(r)));
+    program_console::spell(base::part(bytes, 0, result::length(r)));
     program_console::word(b" : ");
     words::status(result::status(r));
     program_console::end();
+    status::GOOD
 }
 
-// Sends a command to the card, and says what it was and what came back.
-fn send(command: &[u8], image: &mut [u8], session: &mut [u8]) {
+// Writes a command out.
+fn echo(command: &[u8]) {
     program_console::word(b">");
     program_console::spell(command);
     program_console::end();
-    let mut response = io::buffer();
-    let r = malquindo::malquindo_command(image, session, command, &mut response);
-    answer(r, &response);
+}
+
+// Sends a command to the card, keeps what it changed, and then says what came back.
+fn send(command: &[u8], image: &mut [u8], kept: &mut [u8], session: &mut [u8], how: How) -> usize {
+    if how.echo {
+        echo(command);
+    }
+    let mut bytes = io::buffer();
+    let r = malquindo::malquindo_command(image, session, command, &mut bytes);
+    if !keep::change(how.fd, kept, image) {
+        return status::NO_CARD;
+    }
+    response(r, &bytes)
 }
 
 // A command's line.
-fn command(s: &[u8], image: &mut [u8], session: &mut [u8]) {
+fn command(s: &[u8], image: &mut [u8], kept: &mut [u8], session: &mut [u8], how: How) -> usize {
     let mut bytes = io::buffer();
     let r = hex::decode(s, &mut bytes);
     if !r.good {
-        unreadable(s);
-        return;
+        return unreadable(s);
     }
-    send(base::part(&bytes, 0, r.n), image, session);
+    send(base::part(&bytes, 0, r.n), image, kept, session, how)
 }
 
 // A move's line.
-fn move_line(s: &[u8], image: &[u8]) {
-    if !moves::line(base::part(s, 4, s.len()), image) {
-        unreadable(s);
+fn move_line(s: &[u8], image: &[u8]) -> usize {
+    let r = moves::line(base::part(s, 4, s.len()), image);
+    if r.good {
+        return r.status;
     }
+    unreadable(s)
 }
 
-// One line, without its comment.
-fn line(s: &[u8], image: &mut [u8], session: &mut [u8]) {
-    let t = base::part(s, text::start(s, 0), s.len());
-    if t.len() == 0 {
-        return;
-    }
-    if starts(t, b"open") {
-        open_line(base::part(t, 4, t.len()), session);
-        return;
-    }
-    if starts(t, b"show") {
+// A line that is one word and asks about the card, the session or this program. Answers whether it is one.
+fn told(s: &[u8], image: &[u8], session: &[u8]) -> bool {
+    if text::is(s, b"show") {
         listing::card(image);
-        return;
+        return true;
     }
-    if starts(t, b"move") {
-        move_line(t, image);
-        return;
+    if text::is(s, b"rights") {
+        rights::tell(session);
+        return true;
     }
-    command(t, image, session);
+    if text::is(s, b"session") {
+        place::tell(session);
+        return true;
+    }
+    if text::is(s, b"help") {
+        help::all();
+        return true;
+    }
+    false
 }
 
-// A line, with its comment.
-fn commented(s: &[u8], image: &mut [u8], session: &mut [u8]) {
-    line(base::part(s, 0, before_comment(s)), image, session);
-}
-
-// Answers the whole lines of s from `at` on. Answers the place behind the last of them.
-fn whole(s: &[u8], at: usize, image: &mut [u8], session: &mut [u8]) -> usize {
-    let mut from = at;
-    while from < s.len() {
-        let end = line_end(s, from);
-        if end <= from {
-            return from;
+// A line that begins with its first word.
+fn line(s: &[u8], image: &mut [u8], kept: &mut [u8], session: &mut [u8], how: How) -> usize {
+    let word = text::word(s, 0);
+    if text::is(word, b"open") {
+        return open_line(s, session);
+    }
+    if text::is(word, b"move") {
+        return move_line(s, image);
+    }
+    if s.len() <= text::next(s, 0) {
+        if told(word, image, session) {
+            return status::GOOD;
         }
-        commented(base::part(s, from, end - from), image, session);
-        from = end;
     }
-    from
+    command(s, image, kept, session, how)
 }
 
-// How many bytes one read of the input brings.
-fn more(room: &mut [u8]) -> usize
-    ensures { λ r. ⌜ r ≤ length (now (room .exit)) ⌝ }
-{
-    let got = libc::read(0, room);
-    io::count(got, room)
-}
-
-// Reads and answers lines until the input ends.
-fn answer_all(input: &mut [u8], image: &mut [u8], session: &mut [u8]) {
-    let mut have = 0;
-    let mut at = 0;
-    while have < input.len() {
-        let got = more(&mut input[have..]);
-        if got == 0 {
-            commented(
-                base::part(base::part(input, 0, have), at, have),
-                image,
-                session,
-            );
-            return;
-        }
-        have += got;
-        at = whole(base::part(input, 0, have), at, image, session);
+// Answers a line, which may have a comment, and spaces at both ends.
+pub(crate) fn answer(
+    s: &[u8],
+    image: &mut [u8],
+    kept: &mut [u8],
+    session: &mut [u8],
+    how: How,
+) -> usize {
+    let t = base::part(s, 0, before_comment(s));
+    let words = base::part(t, text::start(t, 0), t.len());
+    if words.len() == 0 {
+        return status::GOOD;
     }
-    program_console::word(b"! the input is too long; what follows is not read\n");
-}
-
-// A session with all rights, and then the lines.
-pub(crate) fn run(image: &mut [u8], input: &mut [u8]) {
-    let mut session = [0; 25];
-    let rights = [0xFF; 60];
-    malquindo::malquindo_open(&rights, &mut session);
-    answer_all(input, image, &mut session);
+    line(words, image, kept, session, how)
 }

@@ -1,6 +1,7 @@
 // A move of the card to a new file: `move FILE KIND LENGTH KIND LENGTH ...`, each kind in hexadecimal, the length of its room in decimal.
 use crate::hex;
 use crate::listing;
+use crate::status;
 use crate::text;
 use program_console::result;
 use program_console::words;
@@ -51,45 +52,73 @@ fn rows(s: &[u8], from: usize, list: &mut [u8]) -> usize {
     MOST
 }
 
-// Makes a file of the new card's image, and says what it holds.
-fn save(name: &[u8], bytes: &[u8]) {
+// Whether a move's line could be read, and how it ended.
+pub(crate) struct Ended {
+    pub(crate) good: bool,
+    pub(crate) status: usize,
+}
+
+fn outcome(good: bool, status: usize) -> Ended {
+    Ended { good, status }
+}
+
+// Writes the new card's image whole, and waits until the device has it. Answers whether it has.
+fn write(fd: i32, bytes: &[u8]) -> bool {
+    if !io::write_all(fd, bytes) {
+        return false;
+    }
+    libc::fsync(fd) == 0
+}
+
+// Says that a new card's file is not there, and why.
+fn not_made(name: &[u8]) -> usize {
+    program_console::warn(b"! the new card's file cannot be made: ");
+    os::fail(name);
+    status::REFUSED
+}
+
+// Makes a file of the new card's image, and says what it holds. A file that is not whole is removed.
+fn save(name: &[u8], bytes: &[u8]) -> usize {
     let fd = os::create(name);
     if fd < 0 {
-        program_console::word(b"! the new card's file cannot be made, or is there already\n");
-        return;
+        return not_made(name);
     }
-    if !io::write_all(fd, bytes) {
-        program_console::word(b"! the new card's file could not be written whole\n");
+    if !write(fd, bytes) {
+        not_made(name);
         libc::close(fd);
-        return;
+        os::unlink(name);
+        return status::REFUSED;
     }
     libc::close(fd);
     program_console::word(b"= moved to a new file\n");
     listing::card(bytes);
+    status::GOOD
 }
 
 // Moves the card to a new file.
-fn move_to(name: &[u8], list: &[u8], image: &[u8]) {
+fn move_to(name: &[u8], list: &[u8], image: &[u8]) -> usize {
     let mut target = program_console::room();
     let r = malquindo::malquindo_move(image, list, &mut target);
     if result::refusal(r) != 0 {
         words::refusal(result::refusal(r));
-        return;
+        return status::REFUSED;
     }
-    save(name, base::part(&target, 0, result::moved_length(r)));
+    save(name, base::part(&target, 0, result::moved_length(r)))
 }
 
-// A move's line, behind its first word. Answers whether it could be read.
-pub(crate) fn line(s: &[u8], image: &[u8]) -> bool {
+// A move's line, behind its first word.
+pub(crate) fn line(s: &[u8], image: &[u8]) -> Ended {
     let at = text::start(s, 0);
     let mut list = [0; 600];
     let n = rows(s, text::next(s, at), &mut list);
     if MOST <= n {
-        return false;
+        return outcome(false, status::REFUSED);
     }
     if s.len() <= at {
-        return false;
+        return outcome(false, status::REFUSED);
     }
-    move_to(text::word(s, at), base::part(&list, 0, n * 6), image);
-    true
+    outcome(
+        true,
+        move_to(text::word(s, at), base::part(&list, 0, n * 6), image),
+    )
 }

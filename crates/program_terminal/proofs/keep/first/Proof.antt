@@ -1,15 +1,15 @@
--- `lines::starts` meets its contract, which says nothing. Invariant: i is within the word. Measure: its characters from i on.
-use borrow.Author.Needs.{needs}
-use lib.ListN.{length}
+-- `keep::first` meets its contract, which says nothing. Invariant: i is within the image. Measure: the bytes from i on.
 use Prim.Native.Nat.{_-_, _≤_}
-use Rattle.program_terminal.proofs.lines.starts.Statement.{statement}
-use Rattle.program_terminal.proofs.lines.starts.Tie as tie
+use lib.ListN.{length}
+use borrow.Author.Needs.{needs}
+use Rattle.program_terminal.proofs.keep.first.Statement.{statement}
+use Rattle.program_terminal.proofs.keep.first.Tie as tie
 
 abbrev Inv-loop : tie.InvT-loop
-Inv-loop s word i₀ i = i ≤ length word
+Inv-loop old new i₀ i = i ≤ length new
 
 abbrev μ-loop : tie.MeasureT-loop
-μ-loop s word i₀ i = length word - i
+μ-loop old new i₀ i = length new - i
 
 loop-holds : tie.Need-loop-holds Inv-loop μ-loop
 loop-holds c = search needs
@@ -35,8 +35,8 @@ loop-again c = search needs
 returns-2 : tie.Need-returns-2 Inv-loop μ-loop
 returns-2 c = search needs
 
-pub starts-spec : {M : Type 1} → statement M
-starts-spec =
+pub first-spec : {M : Type 1} → statement M
+first-spec =
     tie.close
     (tie.spec
     Inv-loop

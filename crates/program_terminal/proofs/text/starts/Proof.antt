@@ -1,16 +1,15 @@
--- `lines::line_end` meets its contract: it never answers a place before `from`. Invariant: i is not before `from`. Measure: the bytes of s
--- from i on.
-use borrow.Author.Needs.{needs}
-use lib.ListN.{length}
+-- `text::starts` meets its contract, which says nothing. Invariant: i is within the word. Measure: its characters from i on.
 use Prim.Native.Nat.{_-_, _≤_}
-use Rattle.program_terminal.proofs.lines.line_end.Statement.{statement}
-use Rattle.program_terminal.proofs.lines.line_end.Tie as tie
+use lib.ListN.{length}
+use borrow.Author.Needs.{needs}
+use Rattle.program_terminal.proofs.text.starts.Statement.{statement}
+use Rattle.program_terminal.proofs.text.starts.Tie as tie
 
 abbrev Inv-loop : tie.InvT-loop
-Inv-loop s from i₀ i = from ≤ i
+Inv-loop s word i₀ i = i ≤ length word
 
 abbrev μ-loop : tie.MeasureT-loop
-μ-loop s from i₀ i = length s - i
+μ-loop s word i₀ i = length word - i
 
 loop-holds : tie.Need-loop-holds Inv-loop μ-loop
 loop-holds c = search needs
@@ -18,8 +17,8 @@ loop-holds c = search needs
 byte-requires : tie.Need-byte-requires Inv-loop μ-loop
 byte-requires c κs = search needs
 
-add-result : tie.Need-add-result Inv-loop μ-loop
-add-result c = search needs
+byte-requires-2 : tie.Need-byte-requires-2 Inv-loop μ-loop
+byte-requires-2 c κs = search needs
 
 returns : tie.Need-returns Inv-loop μ-loop
 returns c = search needs
@@ -36,15 +35,15 @@ loop-again c = search needs
 returns-2 : tie.Need-returns-2 Inv-loop μ-loop
 returns-2 c = search needs
 
-pub line-end-spec : {M : Type 1} → statement M
-line-end-spec =
+pub starts-spec : {M : Type 1} → statement M
+starts-spec =
     tie.close
     (tie.spec
     Inv-loop
     μ-loop
     loop-holds
     byte-requires
-    add-result
+    byte-requires-2
     returns
     add-i
     loop-less

@@ -1,15 +1,15 @@
--- `lines::before_comment` meets its contract, which says nothing. Invariant: i is within s. Measure: the bytes of s from i on.
-use borrow.Author.Needs.{needs}
-use lib.ListN.{length}
+-- `text::find` meets its contract: no place before `at`. Invariant: i is not before `at`. Measure: the bytes of s from i on.
 use Prim.Native.Nat.{_-_, _≤_}
-use Rattle.program_terminal.proofs.lines.before_comment.Statement.{statement}
-use Rattle.program_terminal.proofs.lines.before_comment.Tie as tie
+use lib.ListN.{length}
+use borrow.Author.Needs.{needs}
+use Rattle.program_terminal.proofs.text.find.Statement.{statement}
+use Rattle.program_terminal.proofs.text.find.Tie as tie
 
 abbrev Inv-loop : tie.InvT-loop
-Inv-loop s i₀ i = i ≤ length s
+Inv-loop s at character i₀ i = at ≤ i
 
 abbrev μ-loop : tie.MeasureT-loop
-μ-loop s i₀ i = length s - i
+μ-loop s at character i₀ i = length s - i
 
 loop-holds : tie.Need-loop-holds Inv-loop μ-loop
 loop-holds c = search needs
@@ -32,8 +32,8 @@ loop-again c = search needs
 returns-2 : tie.Need-returns-2 Inv-loop μ-loop
 returns-2 c = search needs
 
-pub before-comment-spec : {M : Type 1} → statement M
-before-comment-spec =
+pub find-spec : {M : Type 1} → statement M
+find-spec =
     tie.close
     (tie.spec
     Inv-loop
