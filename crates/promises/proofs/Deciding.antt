@@ -49,7 +49,7 @@ use Rattle.machine.specs.Step.{verdictOn, stepBy, step}
 use Rattle.promises.specs.Calls.{isPair}
 use Rattle.promises.specs.Promises.{SearchCommand, Searching, Only-searches, Search-refused}
 use Rattle.promises.proofs.Answering.{step-accepted, accepted-facts, taken-accepted}
-use Rattle.promises.proofs.Naming.{record-meant, record-permitted, search-meant, search-resolved}
+use Rattle.promises.proofs.Naming.{record-meant, record-permitted, search-meant, meant-resolved}
 use Rattle.promises.proofs.Wording.{refusing-not, Worded, decide-word}
 
 -- ---- steps 1 to 3
@@ -110,7 +110,8 @@ pub searching-resolved : (img : List ℕ) (s : Session) (cmd buf : List ℕ) (f 
     → Searching s cmd f x r
     → resolveRecord img s Read (searchNamed (x .file)) ≡ RecordAt r
 searching-resolved img s cmd buf f x r a h =
-    search-resolved s r (h .permitted .listed) img (accepted-facts img s (length buf) a .1) Read (h .permitted .right) (x .file) (h .meant)
+    meant-resolved s r (h .permitted .listed) img (accepted-facts img s (length buf) a .1) Read (h .permitted .right) (searchNamed (x .file))
+    (sym (search-meant s (x .file) (RecordFile r)) ∙ h .meant)
 
 pub search-decided-complete : (img : List ℕ) (s : Session) (cmd buf : List ℕ) (f : Frame) (x : SearchFields) (r : Rule)
     → verdictOn img s (length buf) ≡ Accepted

@@ -167,7 +167,7 @@ append-done img s cmd buf f b = came img s cmd buf f b R (appendRecord img s f (
         let x = accepts img s cmd buf o (dataOf cmd) r a in
         record {
           rule = r;
-          meant = p2-meant s (f .header .p2 / 8) (RecordFile r) (record-meant img s Append (orCurrent (f .header .p2 / 8)) r e);
+          meant = p2-meant s (f .header .p2 / 8) (RecordFile r) ∙ record-meant img s Append (orCurrent (f .header .p2 / 8)) r e;
           permitted = record-permitted img s Append (orCurrent (f .header .p2 / 8)) r e;
           records = append-list img (r .kind) r (dataOf cmd) o x;
           only = only-changed img _ (r .kind) (append-changes img (r .kind) r (dataOf cmd) o x);

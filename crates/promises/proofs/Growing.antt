@@ -97,7 +97,7 @@ module _ (img : List ℕ) (s : Session) (cmd : List ℕ) (f : Frame) (w : ℕ) w
     of-kind : (k : ℕ) → isMeantKind s (f .header .p2 / 8) k ≡ eqb (r .kind) k
     of-kind =
         kind-meant s (f .header .p2 / 8) r (record-listed img s Append (orCurrent (f .header .p2 / 8)) r e)
-        (p2-meant s (f .header .p2 / 8) (RecordFile r) (record-meant img s Append (orCurrent (f .header .p2 / 8)) r e))
+        (p2-meant s (f .header .p2 / 8) (RecordFile r) ∙ record-meant img s Append (orCurrent (f .header .p2 / 8)) r e)
 
     to-file : addedBy (r .kind) s cmd w (Good f) ≡ part cmd (f .from) (f .lc) ∷ []
     to-file =

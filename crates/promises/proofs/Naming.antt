@@ -1,14 +1,14 @@
 -- What steps 7 to 9 answer is the file that the command means: the machine's look-ups find what ../specs/Files.antt says (`record-meant` and
--- its like), and a record file that is meant is found (`meant-record`). Read before: ../specs/Files.antt.
-use Prim.Native.Nat.{ℕ, _-_, _≤_}
+-- its like), and a record file that is meant is found (`meant-resolved`). Read before: ../specs/Files.antt.
+use Prim.Native.Nat.{ℕ, _-_}
 use mathlib.Core.Path.{_≡_, refl, sym, ap, ap₂, subst, _∙_}
 use mathlib.Core.Bool.{Bool, true, false, _||_}
 use mathlib.Core.List.{List, [], _∷_, List·Memᴰ}
 use native.Mathlib.Omega.{arith}
-use lib.ListN.{length, getD}
+use lib.ListN.{length}
 use lib.Dec.{leb, eqb}
 use borrow.Author.Tests.{eqb-true, eq-eqb, not-true}
-use Rattle.base.specs.Choice.{ifElse, allOf}
+use Rattle.base.specs.Choice.{allOf}
 use Rattle.base.proofs.Cases.{by-cases, ifElse-ind, false-true, and-left, and-right, allOf-facts, allOf-accepted}
 use Rattle.store_kinds.specs.Rules.{biometrics, rules, ruleOf, presentBy, biometricsKind}
 use Rattle.store_kinds.specs.declared.rules.Rule.{Rule}
@@ -35,7 +35,6 @@ use Rattle.machine_session.specs.declared.Session.{Session}
 use Rattle.machine_session.specs.declared.Named.{Named}
 use Rattle.machine_session.specs.declared.Named.the-variants.{Current, Short, Id}
 use Rattle.machine_session.specs.declared.Access.{Access}
-use Rattle.machine_session.specs.declared.Access.the-variants.{Read}
 use Rattle.machine_session.specs.declared.Meant.{Meant}
 use Rattle.machine_session.specs.declared.Meant.the-variants.{NotMeant, TheFile}
 use Rattle.machine_session.specs.declared.ResolvedRecord.{ResolvedRecord}
@@ -47,24 +46,24 @@ use Rattle.machine_session.specs.declared.ResolvedBiometrics.the-variants.{Biom
 use Rattle.machine_session.specs.declared.ResolvedFile.{ResolvedFile}
 use Rattle.machine_session.specs.declared.ResolvedFile.the-variants.{FileStop, FileAt}
 use Rattle.machine_session.proofs.Steps.{inOrder-each, RecordOk, resolveRecord-wellFormed, FileResolved, BiometricsResolved, TransparentResolved}
-use Rattle.machine_action.specs.Tests.{idIn, orCurrent}
+use Rattle.machine_action.specs.Tests.{orCurrent}
 use Rattle.machine_record.specs.SearchRecord.{searchNamed}
-use Rattle.promises.specs.Files.{homeOf, isShortOf, goesBy, isMeant, isMeantByP2, isMeantBySearch, isMeantRow, isMeantKind, Permitted, isThere, Inspected, Writes-to}
+use Rattle.promises.specs.Files.{applicationOfFile, isShortOf, goesBy, isMeant, isMeantByP2, isMeantBySearch, isMeantRow, isMeantKind, Permitted, isThere, Inspected, Writes-to}
 
 -- ---- what a look-up finds is in the application, and has the id or the short id
 
 -- a file of the application a
 abbrev Home : ℕ → File → Type 0
-Home a f = eqb (homeOf f) a ≡ true
+Home a f = eqb (applicationOfFile f) a ≡ true
 
 home-master : (a i x y : ℕ) → eqb a 0 ≡ true → Found (Home a) (masterBy x y i)
-unfolding masterBy homeOf
+unfolding masterBy applicationOfFile
 home-master a i x y e =
     let z : eqb 0 a ≡ true = eq-eqb 0 a (sym (eqb-true a 0 e)) in
     ifElse-ind (Found (Home a)) (eqb i x) (λ h. z) (λ h. ifElse-ind (Found (Home a)) (eqb i y) (λ g. z) (λ g. tt))
 
 home-biometrics : (img : List ℕ) (a i : ℕ) → Found (Home a) (biometricsById img a i)
-unfolding biometricsById homeOf
+unfolding biometricsById applicationOfFile
 home-biometrics img a i =
     let tests : List Bool = eqb a biometrics ∷ leb 0x0201 i ∷ leb i 0x0240 ∷ has img (biometricsKind (i - 0x0200)) ∷ [] in
     ifElse-ind (Found (Home a)) (allOf tests) (λ h. eq-eqb biometrics a (sym (eqb-true a biometrics (allOf-facts tests h .0)))) (λ h. tt)
@@ -78,13 +77,13 @@ found-ruled P img key other h o = go (ruleOf key) refl
     go (Is r) e = ifElse-ind (Found P) (has img (r .kind)) (λ _. h r e) (λ _. tt)
 
 byId-home : (img : List ℕ) (a i : ℕ) → Found (Home a) (byId img a i)
-unfolding byId homeOf
+unfolding byId applicationOfFile
 byId-home img a i =
     ifElse-ind (Found (Home a)) (eqb a 0) (home-master a i 0x2F01 0x2F00)
     (λ _. found-ruled (Home a) img (ById a i) (biometricsById img a i) (λ r e. and-left (eqb (r .application) a) (eqb (r .id) i) (rule-key (ById a i) r e)) (home-biometrics img a i))
 
 byShort-home : (img : List ℕ) (a x : ℕ) → Found (Home a) (byShort img a x)
-unfolding byShort homeOf
+unfolding byShort applicationOfFile
 byShort-home img a x =
     ifElse-ind (Found (Home a)) (eqb a 0) (home-master a x 0x01 0x1E)
     (λ _. found-ruled (Home a) img (ByShort a x) NoFile (λ r e. and-left (eqb (r .application) a) (eqb (r .short) x) (rule-key (ByShort a x) r e)) tt)
@@ -221,11 +220,11 @@ module _ (img : List ℕ) (s : Session) where
 -- ---- by the bytes
 
 -- P2's short id
-pub p2-meant : (s : Session) (x : ℕ) (f : File) → isMeant s (orCurrent x) f ≡ true → isMeantByP2 s x f ≡ true
+pub p2-meant : (s : Session) (x : ℕ) (f : File) → isMeantByP2 s x f ≡ isMeant s (orCurrent x) f
 unfolding orCurrent isMeantByP2
-p2-meant s x f h = by-cases (eqb x 0) (λ e. simp e (subst (λ (b : Bool). isMeant s (ifElse b Current (Short x)) f ≡ true) e h)) (λ e. simp e (subst (λ (b : Bool). isMeant s (ifElse b Current (Short x)) f ≡ true) e h))
+p2-meant s x f = by-cases (eqb x 0) (λ e. simp e) (λ e. simp e)
 
--- the reference of a search, both ways
+-- the reference of a search
 pub search-meant : (s : Session) (v : List ℕ) (f : File) → isMeantBySearch s v f ≡ isMeant s (searchNamed v) f
 unfolding searchNamed isMeantBySearch
 search-meant s v f = by-cases (eqb (length v) 1) (λ e. simp e) (λ e. simp e)
@@ -237,7 +236,7 @@ module _ (s : Session) (r : Rule) (m : List·Memᴰ r rules) where
   table = listed-regular r m
 
   home : (n : Named) → isMeant s n (RecordFile r) ≡ true → r .application ≡ s .application
-  unfolding isMeant homeOf
+  unfolding isMeant applicationOfFile
   home n h = eqb-true _ _ (allOf-facts _ h .0)
 
   goes : (n : Named) → isMeant s n (RecordFile r) ≡ true → goesBy s (RecordFile r) n ≡ true
@@ -263,17 +262,19 @@ module _ (s : Session) (r : Rule) (m : List·Memᴰ r rules) where
       presentBy-has (has img) (ByKind (r .kind)) r (table .by-kind) (subst (λ (b : ℕ). presentBy (has img) b ≡ true) (sym e) p)
 
   module _ (img : List ℕ) (fits : sessionFits img s ≡ true) (x : Access) (right : mayRecord s x r ≡ true) where
-    named-short : (y : ℕ) → isMeant s (Short y) (RecordFile r) ≡ true → resolveRecord img s x (Short y) ≡ RecordAt r
-    unfolding resolveRecord fileMeant byShort
-    named-short y h = simp (in-application (home (Short y) h), by-short y h, stands img fits (home (Short y) h), right)
+    pub meant-resolved : (n : Named) → isMeant s n (RecordFile r) ≡ true → resolveRecord img s x n ≡ RecordAt r
+    unfolding resolveRecord fileMeant byShort byId idOf isCurrent
+    meant-resolved (Short y) h = simp (in-application (home (Short y) h), by-short y h, stands img fits (home (Short y) h), right)
+    meant-resolved (Id i) h = simp (in-application (home (Id i) h), by-id i (home (Id i) h) (eqb-true _ _ (goes (Id i) h)), stands img fits (home (Id i) h), right)
+    meant-resolved Current h = at (s .place) (home Current h) (goes Current h)
+      where
+        on : (i : ℕ) → r .application ≡ s .application → eqb i (r .id) ≡ true → recordBy s x (meantBy (byId img (s .application) i)) ≡ RecordAt r
+        on i e c = simp (in-application e, by-id i e (sym (eqb-true i (r .id) c)), stands img fits e, right)
 
-    named-id : (i : ℕ) → isMeant s (Id i) (RecordFile r) ≡ true → resolveRecord img s x (Id i) ≡ RecordAt r
-    unfolding resolveRecord fileMeant byId idOf
-    named-id i h = simp (in-application (home (Id i) h), by-id i (home (Id i) h) (eqb-true _ _ (goes (Id i) h)), stands img fits (home (Id i) h), right)
-
-    pub search-resolved : (v : List ℕ) → isMeantBySearch s v (RecordFile r) ≡ true → resolveRecord img s x (searchNamed v) ≡ RecordAt r
-    unfolding searchNamed isMeantBySearch
-    search-resolved v h = by-cases (eqb (length v) 1) (λ e. simp e (named-short (getD v 0 0) (subst (λ (b : Bool). ifElse b (isMeant s (Short (getD v 0 0)) (RecordFile r)) (isMeant s (Id (idIn v)) (RecordFile r)) ≡ true) e h))) (λ e. simp e (named-id (idIn v) (subst (λ (b : Bool). ifElse b (isMeant s (Short (getD v 0 0)) (RecordFile r)) (isMeant s (Id (idIn v)) (RecordFile r)) ≡ true) e h)))
+        at : (p : Place) → r .application ≡ s .application → isCurrent p (r .id) ≡ true → recordBy s x (meantAt img (s .application) p) ≡ RecordAt r
+        at Nowhere e c = false-true c
+        at (OnFile i) e c = on i e c
+        at (OnRecord i n) e c = on i e c
 
 -- ---- P2 means one record file only
 

@@ -108,7 +108,7 @@ module _ (img : List ℕ) (s : Session) (cmd buf : List ℕ) (f : Frame) (o : we
       record {
         rule = r;
         number = a;
-        meant = p2-meant s (f .header .p2 / 8) (RecordFile r) (record-meant img s Read (orCurrent (f .header .p2 / 8)) r (h .at));
+        meant = p2-meant s (f .header .p2 / 8) (RecordFile r) ∙ record-meant img s Read (orCurrent (f .header .p2 / 8)) r (h .at);
         permitted = record-permitted img s Read (orCurrent (f .header .p2 / 8)) r (h .at);
         by-number = λ z. record-named s r (f .header .p1) a (h .first) .0 z;
         by-current = λ z. record-named s r (f .header .p1) a (h .first) .1 z;

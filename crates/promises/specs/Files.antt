@@ -28,11 +28,11 @@ use Rattle.machine_session.specs.declared.Named.the-variants.{Current, Short, I
 use Rattle.machine_action.specs.Tests.{idIn}
 
 -- the application that a file is in; the master file is application 0 [F1] [F2]
-unfoldable pub homeOf : File → ℕ
-homeOf (RecordFile r) = r .application
-homeOf (TransparentFile Info) = 0
-homeOf (TransparentFile Dir) = 0
-homeOf (TransparentFile (Biometrics n)) = biometrics
+unfoldable pub applicationOfFile : File → ℕ
+applicationOfFile (RecordFile r) = r .application
+applicationOfFile (TransparentFile Info) = 0
+applicationOfFile (TransparentFile Dir) = 0
+applicationOfFile (TransparentFile (Biometrics n)) = biometrics
 
 -- x is the short id of a file; Biometrics n has none [F2] [F4]
 unfoldable pub isShortOf : File → ℕ → Bool
@@ -49,7 +49,7 @@ goesBy s f (Id i) = eqb (idOf f) i
 
 -- and is one of the selected application's [F1] [C7]
 unfoldable pub isMeant : Session → Named → File → Bool
-isMeant s n f = allOf (eqb (homeOf f) (s .application) ∷ goesBy s f n ∷ [])
+isMeant s n f = allOf (eqb (applicationOfFile f) (s .application) ∷ goesBy s f n ∷ [])
 
 -- the short id x of P2 means the file f: 0 is the current file [F4] [C7]
 unfoldable pub isMeantByP2 : Session → ℕ → File → Bool
