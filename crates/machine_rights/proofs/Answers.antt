@@ -7,6 +7,7 @@ use lib.ListN.{getD}
 use borrow.Author.Tests.{le-leb, lt-leb, ne-eqb}
 use Rattle.base.specs.Choice.{allOf}
 use Rattle.machine_rights.specs.declared.Rights.{Rights}
+use Rattle.machine_rights.specs.declared.RightBit.{RightBit}
 use Rattle.machine_rights.specs.Rights.{bit, flagged, biometricsByte, recordBit, certificateBit, mayRecords, biometricsBit, mayBiometrics}
 
 module _ (r : Rights) (a : ℕ) where
@@ -53,7 +54,7 @@ module _ (r : Rights) (n : ℕ) (activated : Bool) where
   unfolding mayBiometrics allOf
   file-high h = simp (lt-leb _ _ h, and-false)
 
-  pub file-is : (x b : ℕ) → 1 ≤ n → n ≤ 64 → x ≡ getD (r .biometrics) (2 + (n - 1) / 4 - 1) 0
-      → b ≡ biometricsBit ((n - 1) % 4) activated → bit x b ≡ mayBiometrics r n activated
+  pub file-is : (b : RightBit) (x : ℕ) → 1 ≤ n → n ≤ 64 → b ≡ biometricsBit n activated → x ≡ getD (r .biometrics) (b .byte - 1) 0
+      → bit x (b .bit) ≡ mayBiometrics r n activated
   unfolding mayBiometrics biometricsByte allOf
-  file-is x b h k e f = simp (le-leb _ _ h, le-leb _ _ k, and-true, e, f)
+  file-is b x h k e f = simp (le-leb _ _ h, le-leb _ _ k, and-true, f, e)

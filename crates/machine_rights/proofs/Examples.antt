@@ -5,7 +5,7 @@ use mathlib.Core.Bool.{true, false}
 use mathlib.Core.List.{List, [], _∷_, _++_}
 use lib.ListN.{replicate, set}
 use Rattle.base.specs.Choice.{allOf}
-use Rattle.machine_rights.specs.Rights.{bit, flagged, biometricsByte, biometricsBit, mayBiometrics}
+use Rattle.machine_rights.specs.Rights.{bit, flagged, biometricsByte, fileBits, biometricsBit, mayBiometrics}
 use Rattle.machine_rights.specs.Chain.{certificate, joinedBytes, joined, clearedBytes, cleared, noRights, effective}
 
 -- three certificates with every bit set: the bits without a meaning are cleared
@@ -31,9 +31,9 @@ one : List ℕ
 one = (7 ∷ 0 ∷ 0 ∷ 0 ∷ 0 ∷ 0x80 ∷ []) ++ replicate 14 0
 
 five : mayBiometrics (effective (one ++ (one ++ one))) 5 false ≡ true
-unfolding one certificate joinedBytes joined clearedBytes cleared effective mayBiometrics biometricsByte biometricsBit allOf bit
+unfolding one certificate joinedBytes joined clearedBytes cleared effective mayBiometrics biometricsByte biometricsBit fileBits allOf bit
 five = refl
 
 five-activated : mayBiometrics (effective (one ++ (one ++ one))) 5 true ≡ false
-unfolding one certificate joinedBytes joined clearedBytes cleared effective mayBiometrics biometricsByte biometricsBit allOf bit
+unfolding one certificate joinedBytes joined clearedBytes cleared effective mayBiometrics biometricsByte biometricsBit fileBits allOf bit
 five-activated = refl

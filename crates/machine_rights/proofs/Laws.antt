@@ -13,7 +13,7 @@ use Rattle.base.specs.Choice.{ifElse, allOf}
 use Rattle.base.proofs.Cases.{ifElse-ind, and-left, and-right, false-true, allOf-facts as held-tests}
 use Rattle.base.proofs.Parts.{length-part}
 use Rattle.machine_rights.specs.declared.Rights.{Rights}
-use Rattle.machine_rights.specs.Rights.{bit, flagged, biometricsByte, mayRecords, mayBiometrics}
+use Rattle.machine_rights.specs.Rights.{bit, flagged, biometricsByte, mayRecords, biometricsBit, mayBiometrics}
 use Rattle.machine_rights.specs.Chain.{certificate, joinedBytes, joined, clearedBytes, cleared, noRights, effective, held, sameBytes, same, isCleared}
 use Rattle.machine_rights.proofs.Elements.{same-refl, same-rest}
 
@@ -187,4 +187,4 @@ module _ (r : Rights) (e : isCleared r ≡ true) where
   pub unflagged-biometrics : (n : ℕ) (activated : Bool) → flagged r 3 ≡ false → mayBiometrics r n activated ≡ false
   unfolding mayBiometrics allOf
   unflagged-biometrics n activated f =
-      simp (no-byte (2 + (n - 1) / 4) (no-bit r 3 (omega arith) (omega arith) f), bit-zero, and-false)
+      simp (no-byte (biometricsBit n activated .byte) (no-bit r 3 (omega arith) (omega arith) f), bit-zero, and-false)

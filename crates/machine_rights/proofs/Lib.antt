@@ -1,5 +1,6 @@
 -- `Laws` is for the crates above, `Elements` and `Answers` for the functions here, `Examples` for a reader. `Determined` is about the contracts.
 pub mod Elements
+pub mod Table23
 pub mod Answers
 pub mod Laws
 pub mod Examples

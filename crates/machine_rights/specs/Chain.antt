@@ -36,13 +36,11 @@ joined a b =
       biometrics = joinedBytes (a .biometrics) (b .biometrics);
     }
 
--- the biometrics bytes in cleared form: of byte 1 only b1 and b2 have a meaning, of the other 16 every bit; without the flag all are
--- zero [B4]
+-- the biometrics bytes in cleared form: b1 and b2 of byte 1 have a meaning, and every bit of the others; all are zero without the flag [B4]
 unfoldable pub clearedBytes : Bool → List ℕ → List ℕ
 clearedBytes flag x = ifElse flag (set x 0 (getD x 0 0 % 4)) (replicate 17 0)
 
--- the cleared form: of the flags b1 to b3 have a meaning, of the travel and the visa byte b1 to b4; the bytes of an application whose flag
--- is off are zero [B4]
+-- the cleared form: b1 to b3 of the flags and b1 to b4 of the travel and visa byte have a meaning; without its flag a byte is zero [B4]
 unfoldable pub cleared : Rights → Rights
 cleared r =
     record {
@@ -60,13 +58,10 @@ noRights = record { flags = 0; travel = 0; visa = 0; biometrics = replicate 17 0
 unfoldable pub held : List ℕ → Rights
 held xs = ifElse (ltb (length xs) 20) noRights (certificate xs 0)
 
--- the effective rights of a chain: the bitwise and of its three certificates, cleared; none where the chain has not 60 bytes
--- [B3] [B4] [B6]
+-- the effective rights of a chain: the bitwise and of its three certificates, cleared; none where it has not 60 bytes [B3] [B4] [B6]
 unfoldable pub effective : List ℕ → Rights
 effective c =
-    ifElse (eqb (length c) 60)
-    (cleared (joined (joined (certificate c 0) (certificate c 1)) (certificate c 2)))
-    noRights
+    ifElse (eqb (length c) 60) (cleared (joined (joined (certificate c 0) (certificate c 1)) (certificate c 2))) noRights
 
 -- two runs of bytes are the same [B5]
 unfoldable pub sameBytes : List ℕ → List ℕ → Bool
@@ -79,11 +74,7 @@ sameBytes (x ∷ xs) (y ∷ ys) = eqb x y && sameBytes xs ys
 unfoldable pub same : Rights → Rights → Bool
 same a b =
     allOf
-    (eqb (a .flags) (b .flags)
-    ∷ eqb (a .travel) (b .travel)
-    ∷ eqb (a .visa) (b .visa)
-    ∷ sameBytes (a .biometrics) (b .biometrics)
-    ∷ [])
+    (eqb (a .flags) (b .flags) ∷ eqb (a .travel) (b .travel) ∷ eqb (a .visa) (b .visa) ∷ sameBytes (a .biometrics) (b .biometrics) ∷ [])
 
 -- rights are in cleared form when clearing them changes nothing [B5]
 unfoldable pub isCleared : Rights → Bool

@@ -1,11 +1,12 @@
 -- The tests of a right.
 use Prim.Native.Nat.{ℕ, _+_, _-_, _*_, _/_, _%_, _^_}
 use mathlib.Core.Bool.{Bool, false, _&&_}
-use mathlib.Core.List.{[], _∷_}
+use mathlib.Core.List.{List, [], _∷_}
 use lib.ListN.{getD}
 use lib.Dec.{leb, eqb}
 use Rattle.base.specs.Choice.{ifElse, allOf}
 use Rattle.machine_rights.specs.declared.Rights.{Rights}
+use Rattle.machine_rights.specs.declared.RightBit.{RightBit}
 
 -- bit b of a byte, b1 the lowest [V5]
 unfoldable pub bit : ℕ → ℕ → Bool
@@ -35,11 +36,21 @@ mayRecords r a certificates append =
     (ifElse (eqb a 3) (certificates && bit (biometricsByte r 1) (certificateBit append))
     false))
 
--- which bit counts for the biometrics file whose number less one leaves i by 4: bit 7 - 2i while it is Activated, bit 8 - 2i before [B9]
-unfoldable pub biometricsBit : ℕ → Bool → ℕ
-biometricsBit i activated = ifElse activated (7 - 2 * i) (8 - 2 * i)
+-- Table 23, the four files of a byte in its order: for each its bit while Deactivated, then its bit while Activated [B9]
+unfoldable pub fileBits : List (List ℕ)
+fileBits =
+    (8 ∷ 7 ∷ [])  -- Biometrics 1, 5, 9, …, 61
+    ∷ (6 ∷ 5 ∷ [])  -- Biometrics 2, 6, 10, …, 62
+    ∷ (4 ∷ 3 ∷ [])  -- Biometrics 3, 7, 11, …, 63
+    ∷ (2 ∷ 1 ∷ [])  -- Biometrics 4, 8, 12, …, 64
+    ∷ []
 
--- Biometrics n may be used in its state: its bit stands in byte 2 + (n - 1) div 4 [B9]
+-- the bit that counts for Biometrics n in its state: byte 2 has files 1 to 4, byte 3 files 5 to 8, and so on to byte 17 [B9]
+unfoldable pub biometricsBit : ℕ → Bool → RightBit
+biometricsBit n activated =
+    let row = getD fileBits ((n - 1) % 4) [] in record { byte = 2 + (n - 1) / 4; bit = getD row (ifElse activated 1 0) 0 }
+
+-- Biometrics n may be used in its state [B9]
 unfoldable pub mayBiometrics : Rights → ℕ → Bool → Bool
 mayBiometrics r n activated =
-    allOf (leb 1 n ∷ leb n 64 ∷ bit (biometricsByte r (2 + (n - 1) / 4)) (biometricsBit ((n - 1) % 4) activated) ∷ [])
+    let b = biometricsBit n activated in allOf (leb 1 n ∷ leb n 64 ∷ bit (biometricsByte r (b .byte)) (b .bit) ∷ [])

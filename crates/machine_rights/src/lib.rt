@@ -6,7 +6,7 @@ ghost use Prim.Native.Nat.{_+_, _-_, _*_, _≤_, _<_, _%_};
 ghost use lib.ListN.{length, getD};
 ghost use Rattle.base.specs.Choice.{ifElse};
 ghost use Rattle.base.specs.Bytes.{part};
-ghost use Rattle.machine_rights.specs.Rights.{bit, flagged, recordBit, mayRecords, mayBiometrics};
+ghost use Rattle.machine_rights.specs.Rights.{bit, flagged, recordBit, mayRecords, biometricsBit, mayBiometrics};
 ghost use Rattle.machine_rights.specs.Chain.{certificate, joinedBytes, joined, clearedBytes, cleared, noRights, held, effective, sameBytes, same, isCleared};
 
 const TRAVEL: usize = 1;
@@ -249,6 +249,34 @@ pub fn may_records(r: Rights, application: usize, certificates: bool, append: bo
     bit(biometrics_byte(x, 1), record_bit(false, append))
 }
 
+// A bit of the 17 biometrics bytes: its byte, and the bit of that byte, both counted from 1.
+struct RightBit {
+    byte: usize,
+    bit: usize,
+}
+
+// Table 23: the four files of a byte in its order. A row is a file's bit while Deactivated, then its bit while Activated. [B9]
+const FILE_BITS: [[usize; 2]; 4] = [
+    [8, 7], // Biometrics 1, 5, 9, …, 61
+    [6, 5], // Biometrics 2, 6, 10, …, 62
+    [4, 3], // Biometrics 3, 7, 11, …, 63
+    [2, 1], // Biometrics 4, 8, 12, …, 64
+];
+
+// The bit that counts for Biometrics n in its state. Byte 1 is for certificates, byte 2 for files 1 to 4, byte 3 for files 5 to 8, and so
+// on to byte 17.
+fn biometrics_bit(n: usize, activated: bool) -> RightBit
+    requires { ⌜ (1 ≤ n) × (n ≤ 64) ⌝ }
+    ensures { λ b. ⌜ b ≡ biometricsBit n activated ⌝ }
+{
+    let byte = 2 + (n - 1) / 4;
+    let row = FILE_BITS[(n - 1) % 4];
+    if activated {
+        return RightBit { byte, bit: row[1] };
+    }
+    RightBit { byte, bit: row[0] }
+}
+
 // Whether Biometrics n may be used in its state.
 pub fn may_biometrics(r: Rights, n: usize, activated: bool) -> bool
     ensures { λ z. ⌜ z ≡ mayBiometrics r n activated ⌝ }
@@ -259,11 +287,7 @@ pub fn may_biometrics(r: Rights, n: usize, activated: bool) -> bool
     if 64 < n {
         return false;
     }
-    let i = (n - 1) % 4;
     let x = r.biometrics;
-    let byte = biometrics_byte(x, 2 + (n - 1) / 4);
-    if activated {
-        return bit(byte, 7 - 2 * i);
-    }
-    bit(byte, 8 - 2 * i)
+    let b = biometrics_bit(n, activated);
+    bit(biometrics_byte(x, b.byte), b.bit)
 }

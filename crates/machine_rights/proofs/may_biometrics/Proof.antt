@@ -1,7 +1,7 @@
--- `may_biometrics` meets its contract: the number is in range, so byte and bit are, and the state says which bit counts.
+-- `may_biometrics` meets its contract: the number is in range, so byte and bit are there, and the bit is the one that counts.
 use mathlib.Core.Path.{_∙_}
 use native.Mathlib.Omega.{arith}
-use Rattle.machine_rights.specs.Rights.{biometricsBit}
+use Rattle.machine_rights.proofs.Table23.{biometricsBit-inside}
 use Rattle.machine_rights.proofs.Answers.{file-low, file-high, file-is}
 use borrow.Author.Needs.{needs}
 use Rattle.machine_rights.proofs.may_biometrics.Statement.{statement}
@@ -13,41 +13,19 @@ returns c = file-low _ _ _ (c .if1 .taken)
 returns-2 : tie.Need-returns-2
 returns-2 c = file-high _ _ _ (c .if2 .taken)
 
-add-biometrics-byte : tie.Need-add-biometrics-byte
-add-biometrics-byte c = search needs
+biometrics-bit-requires : tie.Need-biometrics-bit-requires
+biometrics-bit-requires c κs = search needs
 
 biometrics-byte-requires : tie.Need-biometrics-byte-requires
-biometrics-byte-requires c κs = search needs
-
-mul-bit : tie.Need-mul-bit
-mul-bit c = search needs
-
-sub-bit : tie.Need-sub-bit
-sub-bit c = search needs
+biometrics-byte-requires c κs = biometricsBit-inside _ _ _ (c .biometrics-bit .ensures) (omega arith) .0
 
 bit-requires : tie.Need-bit-requires
-bit-requires c κs = search needs
+bit-requires c κs = biometricsBit-inside _ _ _ (c .before .biometrics-bit .ensures) (omega arith) .1
 
 returns-3 : tie.Need-returns-3
-unfolding biometricsBit
 returns-3 c =
     c .bit .ensures
-    ∙ file-is _ _ _ _ _ (omega arith) (omega arith) (c .before .before .biometrics-byte .ensures) (simp (c .before .if3 .taken))
-
-mul-bit-2 : tie.Need-mul-bit-2
-mul-bit-2 c = search needs
-
-sub-bit-2 : tie.Need-sub-bit-2
-sub-bit-2 c = search needs
-
-bit-requires-2 : tie.Need-bit-requires-2
-bit-requires-2 c κs = search needs
-
-returns-4 : tie.Need-returns-4
-unfolding biometricsBit
-returns-4 c =
-    c .bit2 .ensures
-    ∙ file-is _ _ _ _ _ (omega arith) (omega arith) (c .before .before .biometrics-byte .ensures) (simp (c .before .if3 .left))
+    ∙ file-is _ _ _ _ _ (omega arith) (omega arith) (c .before .before .biometrics-bit .ensures) (c .before .biometrics-byte .ensures)
 
 pub may-biometrics-spec : {M : Type 1} → statement M
 may-biometrics-spec =
@@ -55,13 +33,7 @@ may-biometrics-spec =
     (tie.spec
     returns
     returns-2
-    add-biometrics-byte
+    biometrics-bit-requires
     biometrics-byte-requires
-    mul-bit
-    sub-bit
     bit-requires
-    returns-3
-    mul-bit-2
-    sub-bit-2
-    bit-requires-2
-    returns-4)
+    returns-3)
