@@ -1,6 +1,6 @@
 -- The answers on a right by the tests that the code makes: one law for each. Read before: specs/Rights.antt. Exports `flag-…`, `in-…`
 -- (records and certificates) and `file-…` (biometrics files), for the functions of this crate.
-use Prim.Native.Nat.{ℕ, _+_, _-_, _/_, _%_, _≤_, _<_}
+use Prim.Native.Nat.{ℕ, _-_, _≤_, _<_}
 use mathlib.Core.Path.{_≡_}
 use mathlib.Core.Bool.{Bool, true, false, and-true, and-false}
 use lib.ListN.{getD}

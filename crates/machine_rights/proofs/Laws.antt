@@ -1,6 +1,6 @@
 -- The rights: clearing them twice is clearing them once, effective rights are in cleared form, and without its flag an application has no
 -- right. Read before: specs/Chain.antt. Exports `effective-cleared`, `effective-length`, `held-length`, `unflagged-…`.
-use Prim.Native.Nat.{ℕ, zero, suc, _+_, _-_, _/_, _%_, _≤_}
+use Prim.Native.Nat.{ℕ, zero, suc, _-_, _/_, _%_, _≤_}
 use mathlib.Core.Path.{_≡_, refl, sym, ap, ap₂, _∙_}
 use mathlib.Core.Bool.{Bool, true, false, and-true, and-false}
 use mathlib.Core.List.{List, [], _∷_}

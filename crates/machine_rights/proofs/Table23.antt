@@ -1,7 +1,7 @@
 -- Table 23 as rows says what the formula of clause B9 says. Read before: specs/Rights.antt. Exports `biometricsBit-formula` and
 -- `mayBiometrics-formula`, for a reader, and `biometricsBit-inside`, for the functions here.
 use Prim.Native.Nat.{ℕ, zero, suc, _+_, _-_, _*_, _/_, _%_, _≤_, _<_}
-use mathlib.Core.Path.{_≡_, refl, ap, _∙_}
+use mathlib.Core.Path.{_≡_, refl, _∙_}
 use mathlib.Core.Bool.{Bool, true, false}
 use mathlib.Core.List.{[], _∷_}
 use native.Mathlib.Omega.{arith}

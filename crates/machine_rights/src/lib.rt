@@ -255,7 +255,7 @@ struct RightBit {
     bit: usize,
 }
 
-// Table 23: the four files of a byte in its order. A row is a file's bit while Deactivated, then its bit while Activated. [B9]
+// Table 23 of ICAO's report: the four files of a byte, in its order. A row is a file's bit while Deactivated, then its bit while Activated.
 const FILE_BITS: [[usize; 2]; 4] = [
     [8, 7], // Biometrics 1, 5, 9, …, 61
     [6, 5], // Biometrics 2, 6, 10, …, 62
@@ -263,8 +263,8 @@ const FILE_BITS: [[usize; 2]; 4] = [
     [2, 1], // Biometrics 4, 8, 12, …, 64
 ];
 
-// The bit that counts for Biometrics n in its state. Byte 1 is for certificates, byte 2 for files 1 to 4, byte 3 for files 5 to 8, and so
-// on to byte 17.
+// The bit that counts for Biometrics n in its state. Byte 1 is for certificates. Byte 2 has files 1 to 4, byte 3 files 5 to 8, and so on to
+// byte 17.
 fn biometrics_bit(n: usize, activated: bool) -> RightBit
     requires { ⌜ (1 ≤ n) × (n ≤ 64) ⌝ }
     ensures { λ b. ⌜ b ≡ biometricsBit n activated ⌝ }
