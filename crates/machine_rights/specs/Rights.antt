@@ -48,7 +48,7 @@ fileBits =
 -- the bit that counts for Biometrics n in its state: byte 2 has files 1 to 4, byte 3 files 5 to 8, and so on to byte 17 [B9]
 unfoldable pub biometricsBit : ℕ → Bool → RightBit
 biometricsBit n activated =
-    let row = getD fileBits ((n - 1) % 4) [] in record { byte = 2 + (n - 1) / 4; bit = getD row (ifElse activated 1 0) 0 }
+    let row = getD fileBits ((n - 1) % 4) [] in record { byte = 2 + (n - 1) / 4; bit = ifElse activated (getD row 1 0) (getD row 0 0) }
 
 -- Biometrics n may be used in its state [B9]
 unfoldable pub mayBiometrics : Rights → ℕ → Bool → Bool

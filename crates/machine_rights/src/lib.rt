@@ -263,18 +263,26 @@ const FILE_BITS: [[usize; 2]; 4] = [
     [2, 1], // Biometrics 4, 8, 12, …, 64
 ];
 
+// The columns of a row.
+const DEACTIVATED: usize = 0;
+
+const ACTIVATED: usize = 1;
+
 // The bit that counts for Biometrics n in its state. Byte 1 is for certificates. Byte 2 has files 1 to 4, byte 3 files 5 to 8, and so on to
 // byte 17.
 fn biometrics_bit(n: usize, activated: bool) -> RightBit
     requires { ⌜ (1 ≤ n) × (n ≤ 64) ⌝ }
     ensures { λ b. ⌜ b ≡ biometricsBit n activated ⌝ }
 {
-    let byte = 2 + (n - 1) / 4;
     let row = FILE_BITS[(n - 1) % 4];
-    if activated {
-        return RightBit { byte, bit: row[1] };
+    RightBit {
+        byte: 2 + (n - 1) / 4,
+        bit: if activated {
+            row[ACTIVATED]
+        } else {
+            row[DEACTIVATED]
+        },
     }
-    RightBit { byte, bit: row[0] }
 }
 
 // Whether Biometrics n may be used in its state.

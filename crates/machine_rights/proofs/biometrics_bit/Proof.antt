@@ -4,12 +4,6 @@ use borrow.Author.Needs.{needs}
 use Rattle.machine_rights.proofs.biometrics_bit.Statement.{statement}
 use Rattle.machine_rights.proofs.biometrics_bit.Tie as tie
 
-sub-byte : tie.Need-sub-byte
-sub-byte c = search needs
-
-add-byte : tie.Need-add-byte
-add-byte c = search needs
-
 sub-row : tie.Need-sub-row
 sub-row c = search needs
 
@@ -19,15 +13,21 @@ mul-row c = search needs
 array-copy-out-row : tie.Need-array-copy-out-row
 array-copy-out-row c = search needs
 
-array-read-t19 : tie.Need-array-read-t19
-array-read-t19 c = search needs
+sub-t17 : tie.Need-sub-t17
+sub-t17 c = search needs
+
+add-t19 : tie.Need-add-t19
+add-t19 c = search needs
+
+array-read-t25 : tie.Need-array-read-t25
+array-read-t25 c = search needs
+
+array-read-t28 : tie.Need-array-read-t28
+array-read-t28 c = search needs
 
 returns : tie.Need-returns
 unfolding fileBits biometricsBit
 returns c = simp (c .if1 .taken)
-
-array-read-t5 : tie.Need-array-read-t5
-array-read-t5 c = search needs
 
 returns-2 : tie.Need-returns-2
 unfolding fileBits biometricsBit
@@ -37,12 +37,12 @@ pub biometrics-bit-spec : {M : Type 1} → statement M
 biometrics-bit-spec =
     tie.close
     (tie.spec
-    sub-byte
-    add-byte
     sub-row
     mul-row
     array-copy-out-row
-    array-read-t19
+    sub-t17
+    add-t19
+    array-read-t25
+    array-read-t28
     returns
-    array-read-t5
     returns-2)
