@@ -89,6 +89,7 @@ def the_card():
     call("00B20105000000", "9000", USA + FRA)                                     # m4
     call("00B20304000000", "6A83")                                                # m5
     call("00A200F81C" + SEARCH + "00", "9000", "7F7606510101020102")              # m6
+    call("00A200F81C" + SEARCH.replace("510101", "510108") + "00", "9000", "7F7606510108020102")
     call("00A200F81C" + SEARCH.replace("B006020103", "B006020102") + "00", "6282")    # m7: the window is 03 46 52
     call("805E0107045102010100", "9000", "7F7809810122820100830102")              # m8
     call(append(bytes(21)), "6A84")                                               # m9
@@ -107,9 +108,9 @@ def without_the_flag():
         look(travel(40))
 
 
-def found(matches):
-    """The reply to a search by the short id 01: 7F76 {51 01 01, 02 01 nn for each match}."""
-    inner = bytes([0x51, 1, 1]) + b"".join(bytes([2, 1, n]) for n in matches)
+def found(matches, reference=0x01):
+    """The reply to a search by a reference of one byte: 7F76 {51 01 reference, 02 01 nn for each match}."""
+    inner = bytes([0x51, 1, reference]) + b"".join(bytes([2, 1, n]) for n in matches)
     n = len(inner)
     length = bytes([n]) if n < 128 else bytes([0x81, n]) if n < 256 else bytes([0x82]) + n.to_bytes(2, "big")
     return (b"\x7F\x76" + length + inner).hex()
@@ -129,6 +130,29 @@ def many_matches():
     call(short, "6700")
     call(long, "9000", found(range(1, 85)))
     look(travel(2000, *kept))
+
+
+# application selected, and the bytes by which a search means one of its files: the short id itself, or in b8 to b4; behind them the
+# number of the record that matches there, or the status word
+SPELLINGS = [("00A4000C023F00", {0x01: "6981", 0x08: "6981", 0x1E: "6981", 0xF0: "6981"}),
+             (SELECT_TRAVEL, {0x01: 1, 0x08: 1, 0x02: 2, 0x10: 2, 0x1A: 3, 0xD0: 3}),
+             ("00A4040C07A0000002472002", {0x03: 4, 0x18: 4, 0x1A: 5, 0xD0: 5}),
+             (SELECT_BIOMETRICS, {0x1A: 6, 0xD0: 6})]
+
+
+def every_byte():
+    """A search by each of the 256 bytes in each application. In the nth record file the nth record alone matches."""
+    kinds = [0x0101, 0x0102, 0x011A, 0x0203, 0x021A, 0x031A]
+    image = b"".join(section(kind, records(60, *[bytes.fromhex(USA)] * n, bytes.fromhex(FRA))) for n, kind in enumerate(kinds))
+    image += section(0x0401, biometrics(0, bytes.fromhex(FRA), 6))
+    card(image)
+    for select, files in SPELLINGS:
+        call(select, "9000")
+        for byte in range(256):
+            answer = files.get(byte, "6A82")
+            reply = ("9000", found([answer], byte)) if isinstance(answer, int) else (answer,)
+            call("00A200F81C" + SEARCH.replace("510101", f"5101{byte:02X}") + "00", *reply)
+    look(image)
 
 
 def update(offset):
@@ -166,6 +190,7 @@ def main():
     the_card()
     without_the_flag()
     many_matches()
+    every_byte()
     biometrics_card()
     refusals()
     if "--count" in sys.argv:

@@ -1,3 +1,4 @@
 -- Laws of the commands on record files.
+pub mod Spelling
 pub mod Searched
 pub mod Determined

@@ -1,5 +1,5 @@
 -- SEARCH RECORD.
-use Prim.Native.Nat.{ℕ}
+use Prim.Native.Nat.{ℕ, _/_, _%_}
 use mathlib.Core.List.{List, [], _∷_}
 use lib.ListN.{length, getD}
 use lib.Dec.{leb, eqb}
@@ -31,9 +31,13 @@ fileIn d q = part d (q .file .at) (q .file .len)
 abbrev pub textIn : List ℕ → Search → List ℕ
 textIn d q = part d (q .text .at) (q .text .len)
 
--- a file reference of one byte is a short id, one of two bytes an id [Q4]
+-- the short id that a byte spells: where its low three bits are 000 it is in b8 to b4, otherwise it is the byte itself [Q4]
+unfoldable pub searchShort : ℕ → ℕ
+searchShort b = ifElse (eqb (b % 8) 0) (b / 8) b
+
+-- a file reference of one byte spells a short id, one of two bytes is an id [Q4]
 unfoldable pub searchNamed : List ℕ → Named
-searchNamed v = ifElse (eqb (length v) 1) (Short (getD v 0 0)) (Id (idIn v))
+searchNamed v = ifElse (eqb (length v) 1) (Short (searchShort (getD v 0 0))) (Id (idIn v))
 
 -- [O10]
 abbrev pub searchOn : Search → ℕ → Rule → Action

@@ -16,13 +16,24 @@ ghost use lib.ListN.{length, take};
 ghost use Rattle.store_records.specs.Body.{records};
 ghost use Rattle.objects_templates.specs.declared.Query.the-variants.{Ask};
 ghost use Rattle.machine_reply_search.specs.Found.{kept};
-ghost use Rattle.machine_record.specs.SearchRecord.{searchNamed, searchBy, searchRecord, searchHits, searchStatus};
+ghost use Rattle.machine_record.specs.SearchRecord.{searchShort, searchNamed, searchBy, searchRecord, searchHits, searchStatus};
+
+// The short id that a byte spells. ICAO's example sends the short id itself, ISO sends it in b8 to b4. No file has a short id that ends
+// in 000, so no byte means two files.
+fn search_short(b: usize) -> usize
+    ensures { λ r. ⌜ r ≡ searchShort b ⌝ }
+{
+    if b % 8 == 0 {
+        return b / 8;
+    }
+    b
+}
 
 fn search_named(v: &[u8]) -> Named
     ensures { λ r. ⌜ r ≡ searchNamed (now (v .entry)) ⌝ }
 {
     if v.len() == 1 {
-        return Named::Short(base::byte(v, 0));
+        return Named::Short(search_short(base::byte(v, 0)));
     }
     Named::Id(tests::id_in(v))
 }

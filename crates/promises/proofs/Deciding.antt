@@ -111,14 +111,16 @@ pub searching-resolved : (img : List ℕ) (s : Session) (cmd buf : List ℕ) (f 
     → resolveRecord img s Read (searchNamed (x .file)) ≡ RecordAt r
 searching-resolved img s cmd buf f x r a h =
     meant-resolved s r (h .permitted .listed) img (accepted-facts img s (length buf) a .1) Read (h .permitted .right) (searchNamed (x .file))
-    (sym (search-meant s (x .file) (RecordFile r)) ∙ h .meant)
+    (sym (search-meant s (x .file) (RecordFile r) (h .permitted .listed)) ∙ h .meant)
 
-pub search-decided-complete : (img : List ℕ) (s : Session) (cmd buf : List ℕ) (f : Frame) (x : SearchFields) (r : Rule)
-    → verdictOn img s (length buf) ≡ Accepted
-    → Searching s cmd f x r
-    → (q : Search) × (decide img s cmd ≡ SearchRecord r q (f .ne)) × Searches (dataOf cmd) q x
-search-decided-complete img s cmd buf f x r a h =
-    let c = h .command in
+-- a well-formed search comes to what steps 7 to 9 answer of its reference
+pub record Reached (img : List ℕ) (s : Session) (cmd : List ℕ) (f : Frame) (x : SearchFields) : Type 0 where
+  pub query : Search
+  pub decided : decide img s cmd ≡ onRecord (resolveRecord img s Read (searchNamed (x .file))) (searchOn query (f .ne))
+  pub searches : Searches (dataOf cmd) query x
+
+pub search-reached : (img : List ℕ) (s : Session) (cmd : List ℕ) (f : Frame) (x : SearchFields) → SearchCommand cmd f x → Reached img s cmd f x
+search-reached img s cmd f x c =
     let d = dataOf cmd in
     let k = search-complete x (c .sized) in
     let q = k .0 in
@@ -130,14 +132,26 @@ search-decided-complete img s cmd buf f x r a h =
       p2 = ap (λ (y : Header). eqb (y .p2) 0xF8) (c .header);
       lc = le-leb 1 (f .lc) (omega (arith, some-data x (c .sized)));
       le = c .le;
-    } in (
-      q,
-      led cmd f (c .shape) img s (ap (λ (y : Header). y .cla) (c .header)) (ap (λ (y : Header). y .ins) (c .header))
+    } in
+    record {
+      query = q;
+      decided =
+          led cmd f (c .shape) img s (ap (λ (y : Header). y .cla) (c .header)) (ap (λ (y : Header). y .ins) (c .header))
           ∙ passed img s f d t
           ∙ ap (searchBy img s (f .ne) d) (ap readSearch (c .writes) ∙ k .1)
-          ∙ ap (λ (v : List ℕ). onRecord (resolveRecord img s Read (searchNamed v)) (searchOn q (f .ne))) (w .file-placed .is)
-          ∙ ap (λ (y : ResolvedRecord). onRecord y (searchOn q (f .ne))) (searching-resolved img s cmd buf f x r a h),
-      w,
+          ∙ ap (λ (v : List ℕ). onRecord (resolveRecord img s Read (searchNamed v)) (searchOn q (f .ne))) (w .file-placed .is);
+      searches = w;
+    }
+
+pub search-decided-complete : (img : List ℕ) (s : Session) (cmd buf : List ℕ) (f : Frame) (x : SearchFields) (r : Rule)
+    → verdictOn img s (length buf) ≡ Accepted
+    → Searching s cmd f x r
+    → (q : Search) × (decide img s cmd ≡ SearchRecord r q (f .ne)) × Searches (dataOf cmd) q x
+search-decided-complete img s cmd buf f x r a h =
+    let k = search-reached img s cmd f x (h .command) in (
+      k .query,
+      k .decided ∙ ap (λ (y : ResolvedRecord). onRecord y (searchOn (k .query) (f .ne))) (searching-resolved img s cmd buf f x r a h),
+      k .searches,
     )
 
 pub search-decided-sound : (img : List ℕ) (s : Session) (cmd : List ℕ) (r : Rule) (q : Search) (ne : ℕ)
@@ -162,13 +176,15 @@ search-decided-sound img s cmd r q ne b e = go (shapeOf cmd) refl (subst (FromSh
         let c = eqb-true (f .header .cla) 0x00 (h .pair .0) in
         let i = eqb-true (f .header .ins) 0xA2 (h .pair .1) in
         let v = tested img s f (dataOf cmd) r q ne (sym (led cmd f z img s c i) ∙ e) in
-        let l = header-is (f .header) c i (eqb-true (f .header .p1) 0x00 (v .p1)) (eqb-true (f .header .p2) 0xF8 (v .p2)) in (
+        let l = header-is (f .header) c i (eqb-true (f .header .p1) 0x00 (v .p1)) (eqb-true (f .header .p2) 0xF8 (v .p2)) in
+        let u = here f x (k .1 .file-placed .is) (h .at) in
+        let o = record-permitted img s Read (searchNamed (x .file)) r u in (
           f,
           x,
           record {
             command = record { shape = z; header = l; le = v .le; writes = w .written; sized = w .sized };
-            meant = search-meant s (x .file) (RecordFile r) ∙ record-meant img s Read (searchNamed (x .file)) r (here f x (k .1 .file-placed .is) (h .at));
-            permitted = record-permitted img s Read (searchNamed (x .file)) r (here f x (k .1 .file-placed .is) (h .at));
+            meant = search-meant s (x .file) (RecordFile r) (o .listed) ∙ record-meant img s Read (searchNamed (x .file)) r u;
+            permitted = o;
           },
           h .most,
           w,
@@ -257,17 +273,17 @@ search-refused img s cmd buf f b t e h n =
     said : done (ifElse five (Status 0x6A80) (Status 0x6700)) img s (dataOf cmd) buf .answer .status ≡ ifElse five 0x6A80 0x6700
     said = unfold done says in by-cases five (λ y. simp y) (λ y. simp y)
 
--- ---- m6 of the card to try is such a command
+-- ---- m6 of the card to try is such a command, in either spelling
 
-abbrev m6-fields : SearchFields
-m6-fields = record { file = 0x01 ∷ []; mode = 0x00; offset = 0x03 ∷ []; number = 0x03 ∷ []; text = 0x46 ∷ 0x52 ∷ 0x41 ∷ [] }
+abbrev m6-fields : ℕ → SearchFields
+m6-fields b = record { file = b ∷ []; mode = 0x00; offset = 0x03 ∷ []; number = 0x03 ∷ []; text = 0x46 ∷ 0x52 ∷ 0x41 ∷ [] }
 
 abbrev m6-frame : Frame
 m6-frame = record { header = record { cla = 0x00; ins = 0xA2; p1 = 0x00; p2 = 0xF8 }; from = 5; lc = 28; le = 1; ne = 256 }
 
-pub m6 : SearchCommand (0x00 ∷ 0xA2 ∷ 0x00 ∷ 0xF8 ∷ 0x1C ∷ 0x7F ∷ 0x76 ∷ 0x19 ∷ 0x51 ∷ 0x01 ∷ 0x01 ∷ 0xA1 ∷ 0x0B ∷ 0x80 ∷ 0x01 ∷ 0x00 ∷ 0xB0 ∷ 0x06 ∷ 0x02 ∷ 0x01 ∷ 0x03 ∷ 0x02 ∷ 0x01 ∷ 0x03 ∷ 0xA3 ∷ 0x07 ∷ 0xB1 ∷ 0x05 ∷ 0x81 ∷ 0x03 ∷ 0x46 ∷ 0x52 ∷ 0x41 ∷ 0x00 ∷ []) m6-frame m6-fields
+pub m6 : (b : ℕ) → SearchCommand (0x00 ∷ 0xA2 ∷ 0x00 ∷ 0xF8 ∷ 0x1C ∷ 0x7F ∷ 0x76 ∷ 0x19 ∷ 0x51 ∷ 0x01 ∷ b ∷ 0xA1 ∷ 0x0B ∷ 0x80 ∷ 0x01 ∷ 0x00 ∷ 0xB0 ∷ 0x06 ∷ 0x02 ∷ 0x01 ∷ 0x03 ∷ 0x02 ∷ 0x01 ∷ 0x03 ∷ 0xA3 ∷ 0x07 ∷ 0xB1 ∷ 0x05 ∷ 0x81 ∷ 0x03 ∷ 0x46 ∷ 0x52 ∷ 0x41 ∷ 0x00 ∷ []) m6-frame (m6-fields b)
 unfolding shapeOf shapes firstShape framed headerOf orMost be16At allLe allOf dataOf searchData tlv tagBytes lengthBytes
-m6 = record {
+m6 b = record {
   shape = refl;
   header = refl;
   le = refl;

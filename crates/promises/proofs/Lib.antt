@@ -10,6 +10,7 @@ pub mod Saying
 pub mod Reading
 pub mod Deciding
 pub mod Searching
+pub mod Spelling
 pub mod Doing
 pub mod Fitting
 pub mod Linking

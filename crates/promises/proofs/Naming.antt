@@ -1,11 +1,11 @@
 -- What steps 7 to 9 answer is the file that the command means: the machine's look-ups find what ../specs/Files.antt says (`record-meant` and
 -- its like), and a record file that is meant is found (`meant-resolved`). Read before: ../specs/Files.antt.
-use Prim.Native.Nat.{ℕ, _-_}
+use Prim.Native.Nat.{ℕ, _-_, _%_}
 use mathlib.Core.Path.{_≡_, refl, sym, ap, ap₂, subst, _∙_}
 use mathlib.Core.Bool.{Bool, true, false, _||_}
 use mathlib.Core.List.{List, [], _∷_, List·Memᴰ}
 use native.Mathlib.Omega.{arith}
-use lib.ListN.{length}
+use lib.ListN.{length, getD}
 use lib.Dec.{leb, eqb}
 use borrow.Author.Tests.{eqb-true, eq-eqb, not-true}
 use Rattle.base.specs.Choice.{allOf}
@@ -47,8 +47,8 @@ use Rattle.machine_session.specs.declared.ResolvedFile.{ResolvedFile}
 use Rattle.machine_session.specs.declared.ResolvedFile.the-variants.{FileStop, FileAt}
 use Rattle.machine_session.proofs.Steps.{inOrder-each, RecordOk, resolveRecord-wellFormed, FileResolved, BiometricsResolved, TransparentResolved}
 use Rattle.machine_action.specs.Tests.{orCurrent}
-use Rattle.machine_record.specs.SearchRecord.{searchNamed}
-use Rattle.promises.specs.Files.{applicationOfFile, isShortOf, goesBy, isMeant, isMeantByP2, isMeantBySearch, isMeantRow, isMeantKind, Permitted, isThere, Inspected, Writes-to}
+use Rattle.machine_record.specs.SearchRecord.{searchShort, searchNamed}
+use Rattle.promises.specs.Files.{applicationOfFile, isShortOf, goesBy, isMeant, isMeantByP2, isMeantByByte, isMeantBySearch, isMeantRow, isMeantKind, Permitted, isThere, Inspected, Writes-to}
 
 -- ---- what a look-up finds is in the application, and has the id or the short id
 
@@ -224,10 +224,35 @@ pub p2-meant : (s : Session) (x : ℕ) (f : File) → isMeantByP2 s x f ≡ isMe
 unfolding orCurrent isMeantByP2
 p2-meant s x f = by-cases (eqb x 0) (λ e. simp e) (λ e. simp e)
 
+-- a record file is one of the table
+abbrev pub Listed : File → Type 0
+Listed (RecordFile r) = List·Memᴰ r rules
+Listed (TransparentFile t) = Unit {0}
+
+-- no short id of a file has 000 in its low bits, so that a byte of a search never means two files
+spellings-apart : (f : File) → Listed f → (x : ℕ) → isShortOf f x ≡ true → x % 8 ≡ 0 → ⊥
+unfolding isShortOf
+spellings-apart (RecordFile r) m x h z = let e = eqb-true (r .short) x h in let l = listed-regular r m .low-bits in omega (arith, ap (λ (k : ℕ). k % 8) e)
+spellings-apart (TransparentFile Info) m x h z = let e = eqb-true x 0x01 h in omega (arith, e, z)
+spellings-apart (TransparentFile Dir) m x h z = let e = eqb-true x 0x1E h in omega (arith, e, z)
+spellings-apart (TransparentFile (Biometrics n)) m x h z = false-true h
+
+or-false : (x : Bool) → (x || false) ≡ x
+or-false true = refl
+or-false false = refl
+
+-- so a byte means a file in either spelling exactly where its low bits tell so
+byte-meant : (s : Session) (b : ℕ) (f : File) → Listed f → isMeantByByte s b f ≡ isMeant s (Short (searchShort b)) f
+unfolding isMeantByByte searchShort isMeant
+byte-meant s b f m = by-cases (eqb (b % 8) 0) (λ z. simp (z, plain z)) (λ z. simp z (or-false (isMeant s (Short b) f)))
+  where
+    plain : eqb (b % 8) 0 ≡ true → isMeant s (Short b) f ≡ false
+    plain z = by-cases (isMeant s (Short b) f) (λ h. absurd (spellings-apart f m b (allOf-facts _ h .1 .0) (eqb-true _ _ z))) (λ h. h)
+
 -- the reference of a search
-pub search-meant : (s : Session) (v : List ℕ) (f : File) → isMeantBySearch s v f ≡ isMeant s (searchNamed v) f
+pub search-meant : (s : Session) (v : List ℕ) (f : File) → Listed f → isMeantBySearch s v f ≡ isMeant s (searchNamed v) f
 unfolding searchNamed isMeantBySearch
-search-meant s v f = by-cases (eqb (length v) 1) (λ e. simp e) (λ e. simp e)
+search-meant s v f m = by-cases (eqb (length v) 1) (λ e. simp e (byte-meant s (getD v 0 0) f m)) (λ e. simp e)
 
 -- ---- a record file that is meant is found
 

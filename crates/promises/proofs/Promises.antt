@@ -1,5 +1,5 @@
 -- The theorems: each proves the promise of its name in ../specs/Promises.antt, ../specs/Done.antt or ../specs/Linked.antt.
-use Rattle.promises.specs.Promises.{Says-no, Gets-word, Opens, Holds, Number-kept, Reads-history, Leaves-none-out, Only-searches, Search-refused, Stays-accepted, Answer-fits, Opening-fits, Session-bytes, Opening-bytes, Result-whole, Move-says-no, Move-done, Same-sizes, Move-twice, Move-whole}
+use Rattle.promises.specs.Promises.{Says-no, Gets-word, Opens, Holds, Number-kept, Reads-history, Leaves-none-out, Only-searches, Search-refused, Both-spellings, Stays-accepted, Answer-fits, Opening-fits, Session-bytes, Opening-bytes, Result-whole, Move-says-no, Move-done, Same-sizes, Move-twice, Move-whole}
 use Rattle.promises.specs.Done.{Append-done, Update-done, Activate-done, Read-done, Select-done, Fmm-done}
 use Rattle.promises.specs.Linked.{C-sees, C-malformed, C-says-no, C-gets-word, C-holds, C-number-kept, C-reads-history, C-leaves-none-out, C-opens, C-moves}
 use Rattle.promises.proofs.Keeping.{step-kept}
@@ -13,6 +13,7 @@ use Rattle.promises.proofs.Growing as growing
 use Rattle.promises.proofs.Reading as reading
 use Rattle.promises.proofs.Deciding as deciding
 use Rattle.promises.proofs.Searching as searching
+use Rattle.promises.proofs.Spelling as spelling
 use Rattle.promises.proofs.Fitting as fitting
 use Rattle.promises.proofs.Linking as linking
 use Rattle.promises.proofs.Calling as calling
@@ -43,6 +44,9 @@ only-searches = deciding.only-searches
 
 pub search-refused : Search-refused
 search-refused = deciding.search-refused
+
+pub both-spellings : Both-spellings
+both-spellings = spelling.both-spellings
 
 pub stays-accepted : Stays-accepted
 stays-accepted = fitting.stays-accepted

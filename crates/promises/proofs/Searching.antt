@@ -1,5 +1,5 @@
 -- SEARCH RECORD names exactly the records of a file's history that match. Read ../specs/Promises.antt, section 3, before. Exports
--- `leaves-none-out`.
+-- `leaves-none-out`, and what is listed and replied (`numbers`, `hits-are`, `reply-is`).
 use Prim.Native.Nat.{ℕ, _+_, _-_, _≤_}
 use mathlib.Core.Path.{_≡_, refl, sym, ap, ap₂, subst, _∙_}
 use mathlib.Core.Bool.{Bool, true, false}
@@ -123,7 +123,7 @@ module _ (rs : List (List ℕ)) (x : SearchFields) (some : 1 ≤ length (x .text
   abbrev one : Bool
   one = eqb (x .mode) 0x30
 
-  abbrev numbers : List ℕ
+  abbrev pub numbers : List ℕ
   numbers = hits rs offset number (x .text) one
 
   matches : (n : ℕ) → List·Memᴰ n found → Matches rs x n
@@ -199,15 +199,15 @@ module _ (img : List ℕ) (s : Session) (d buf : List ℕ) (r : Rule) (q : Searc
   abbrev out : Outcome
   out = searched img s d buf r q ne
 
-  file-short : length (fileIn d q) ≤ 2
+  pub file-short : length (fileIn d q) ≤ 2
   file-short = let l = ap length (w .file-placed .is) in omega (arith, w .sized .file-size .1)
 
   -- what is listed and replied, in the words of the fields
-  hits-are : searchHits here d q ≡ numbers here x some
+  pub hits-are : searchHits here d q ≡ numbers here x some
   unfolding searchHits
   hits-are = cc
 
-  reply-is : searchReply here d q ≡ foundData (x .file) (numbers here x some)
+  pub reply-is : searchReply here d q ≡ foundData (x .file) (numbers here x some)
   unfolding searchReply
   reply-is = reply-whole (fileIn d q) (searchHits here d q) (omega (arith, file-short)) ∙ ap₂ foundData (w .file-placed .is) hits-are
 

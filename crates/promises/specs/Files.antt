@@ -1,8 +1,8 @@
 -- Which file a command means, said of the session, of the ids and short ids of files, and of the command's bytes. The promises do not take it
 -- from the machine's look-ups.
-use Prim.Native.Nat.{ℕ}
+use Prim.Native.Nat.{ℕ, _/_, _%_}
 use mathlib.Core.Path.{_≡_}
-use mathlib.Core.Bool.{Bool, true, false}
+use mathlib.Core.Bool.{Bool, true, false, _&&_, _||_}
 use mathlib.Core.List.{List, [], _∷_, List·Memᴰ}
 use lib.ListN.{length, getD}
 use lib.Dec.{eqb}
@@ -55,9 +55,13 @@ isMeant s n f = allOf (eqb (applicationOfFile f) (s .application) ∷ goesBy s f
 unfoldable pub isMeantByP2 : Session → ℕ → File → Bool
 isMeantByP2 s x f = ifElse (eqb x 0) (isMeant s Current f) (isMeant s (Short x) f)
 
--- the reference v of a search means the file f: one byte is a short id, two bytes are an id [Q4] [C10]
+-- the byte b of a search means the file f: it is the short id of f, or has it in b8 to b4 and 000 in its low bits [Q4] [C10]
+unfoldable pub isMeantByByte : Session → ℕ → File → Bool
+isMeantByByte s b f = isMeant s (Short b) f || (eqb (b % 8) 0 && isMeant s (Short (b / 8)) f)
+
+-- the reference v of a search means the file f: one byte is a short id in either spelling, two bytes are an id [Q4] [C10]
 unfoldable pub isMeantBySearch : Session → List ℕ → File → Bool
-isMeantBySearch s v f = ifElse (eqb (length v) 1) (isMeant s (Short (getD v 0 0)) f) (isMeant s (Id (idIn v)) f)
+isMeantBySearch s v f = ifElse (eqb (length v) 1) (isMeantByByte s (getD v 0 0) f) (isMeant s (Id (idIn v)) f)
 
 -- P2 means the record file of a row of the rule table [C7]
 abbrev pub isMeantRow : Session → ℕ → Ruled → Bool

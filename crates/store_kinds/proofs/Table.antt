@@ -2,7 +2,7 @@
 -- Read before: specs/Rules.antt. Exports: `rules-cons`, `rules-end` (the rows one by one), `Looking` with its laws (a look-up),
 -- `rule-listed`, `rule-key` (what a key finds stands in the table and has the key), `allRules-listed` (a test of all rules holds of each),
 -- `Regular`, `listed-regular`, `rule-regular`.
-use Prim.Native.Nat.{ℕ, _+_, _/_, _≤_, _<_}
+use Prim.Native.Nat.{ℕ, _+_, _/_, _%_, _≤_, _<_}
 use mathlib.Core.Path.{_≡_, refl, sym, ap, _∙_}
 use mathlib.Core.Bool.{Bool, true, false}
 use mathlib.Core.Logic.{⊎-elim}
@@ -101,8 +101,8 @@ isRule r (Is q) =
     ∷ eqb (q .most) (r .most)
     ∷ [])
 
--- the table's rule: sizes within their bounds, an id of two bytes, the kind's high byte the application, and the kind, the id and the
--- short id each find this rule and no other
+-- the table's rule: sizes within their bounds, an id of two bytes, the kind's high byte the application, the low three bits of the short id
+-- not 000, and the kind, the id and the short id each find this rule and no other
 regular : Rule → Bool
 regular r =
     allOf
@@ -116,6 +116,7 @@ regular r =
     ∷ isRule r (ruleOf (Id (r .application) (r .id)))
     ∷ isRule r (ruleOf (Short (r .application) (r .short)))
     ∷ leb (r .id) 0xFFFF
+    ∷ leb 1 (r .short % 8)
     ∷ [])
 
 pub record Regular (r : Rule) : Type 0 where
@@ -129,6 +130,7 @@ pub record Regular (r : Rule) : Type 0 where
   pub by-id : ruleOf (Id (r .application) (r .id)) ≡ Is r
   pub by-short : ruleOf (Short (r .application) (r .short)) ≡ Is r
   pub id-small : r .id ≤ 0xFFFF
+  pub low-bits : 1 ≤ r .short % 8
 
 is-rule : (r : Rule) (found : Ruled) → isRule r found ≡ true → found ≡ Is r
 unfolding isRule
@@ -161,6 +163,7 @@ listed-regular r m =
       by-id = is-rule r _ (h .1 .1 .1 .1 .1 .1 .1 .0);
       by-short = is-rule r _ (h .1 .1 .1 .1 .1 .1 .1 .1 .0);
       id-small = leb-true _ _ (h .1 .1 .1 .1 .1 .1 .1 .1 .1 .0);
+      low-bits = leb-true _ _ (h .1 .1 .1 .1 .1 .1 .1 .1 .1 .1 .0);
     }
   where
     whole : allRules regular rules ≡ true

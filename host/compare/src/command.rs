@@ -377,12 +377,12 @@ impl<'a> Maker<'a> {
     }
 
     fn search_record(&mut self) -> Apdu {
-        let target = self.target(File::has_records);
-        let file = if self.random.coin() && target.short_id != 0 {
-            vec![target.short_id]
-        } else {
-            target.id.to_be_bytes().to_vec()
+        // The master file has no records to search. A search of one of its own files is 6981.
+        let target = match self.view.application {
+            0 => self.target(|_| true),
+            _ => self.target(File::has_records),
         };
+        let file = self.search_file(&target);
         let (string, offset, number) = self.string_and_window(target.file);
         let (offset, number) = (self.number(offset), self.number(number));
         let how = self.random.weighted(&[(14, 0x00), (7, 0x30), (1, 0x10)]);
@@ -398,6 +398,18 @@ impl<'a> Maker<'a> {
             .data(data)
             .le(0)
             .extended(self.random.one_in(3))
+    }
+
+    /// The file of a search: its id, or its short id in one of the two spellings; now and then a
+    /// byte with one bit otherwise, or any byte.
+    fn search_file(&mut self, target: &Target) -> Vec<u8> {
+        let spelling = target.short_id << self.random.pick(&[0, 3]);
+        match self.random.below(16) {
+            0 => vec![self.random.byte()],
+            1 => vec![spelling ^ 1 << self.random.below(8)],
+            2..=9 if target.short_id != 0 => vec![spelling],
+            _ => target.id.to_be_bytes().to_vec(),
+        }
     }
 
     /// A string, out of a stored record mostly, and a window that it lies in or just does not.

@@ -11,6 +11,11 @@ pub const STATUSES: [u16; 14] = [
     0x6E00, 0x9000,
 ];
 
+/// How a search may name its file.
+const REFERENCES: [&str; 4] = ["id", "short id", "short id in b8 to b4", "other byte"];
+/// What a search that is well formed and may name a file is answered with.
+const SEARCH_STATUSES: [u16; 6] = [0x9000, 0x6282, 0x6700, 0x6981, 0x6982, 0x6A82];
+
 /// What a move may be refused with.
 pub const MOVE_REFUSALS: [u64; 5] = [2, 10, 11, 12, 13];
 
@@ -24,6 +29,8 @@ pub struct Tally {
     pub moves: u64,
     /// By command (its place in [`NAMES`]) and status.
     statuses: BTreeMap<(usize, u16), u64>,
+    /// Searches by how they name their file (its place in [`REFERENCES`]) and status.
+    searches: BTreeMap<(usize, u16), u64>,
     /// Of commands and openings.
     refusals: [u64; 5],
     /// Moves by refusal, 0 for those that were done.
@@ -57,7 +64,16 @@ impl Tally {
         if result >> 32 == 0 {
             let key = (place(command), result as u16);
             *self.statuses.entry(key).or_default() += 1;
+            if let Some(reference) = search_reference(command) {
+                let key = (reference, result as u16);
+                *self.searches.entry(key).or_default() += 1;
+            }
         }
+    }
+
+    fn searched(&self, reference: usize, status: u16) -> u64 {
+        let key = (reference, status);
+        self.searches.get(&key).copied().unwrap_or(0)
     }
 
     fn refusal(&mut self, result: u64) {
@@ -80,7 +96,8 @@ impl Tally {
         self.moved.get(&refusal).copied().unwrap_or(0)
     }
 
-    /// What occurred too seldom: each status, each refusal, 9000 of each command, moves done.
+    /// What occurred too seldom: each status, each refusal, 9000 of each command, 9000 and 6981 of
+    /// a search by either spelling of a short id, 6A82 of one by another byte, moves done.
     pub fn missing(&self, each: u64, done: u64) -> Vec<String> {
         let statuses = STATUSES
             .iter()
@@ -90,6 +107,17 @@ impl Tally {
         let commands = NAMES.iter().enumerate().map(|(place, (_, name, ..))| {
             (format!("{name} 9000"), self.count(place, 0x9000), done)
         });
+        let searches = [
+            (1, 0x9000, done),
+            (2, 0x9000, done),
+            (1, 0x6981, each),
+            (2, 0x6981, each),
+            (3, 0x6A82, done),
+        ]
+        .map(|(reference, status, wanted)| {
+            let what = format!("search by {}: {status:04X}", REFERENCES[reference]);
+            (what, self.searched(reference, status), wanted)
+        });
         let moves = MOVE_REFUSALS.iter().map(|number| {
             let what = format!("refusal {number} of a move");
             (what, self.moved(*number), each)
@@ -98,6 +126,7 @@ impl Tally {
         statuses
             .chain(refusals)
             .chain(commands)
+            .chain(searches)
             .chain(moves)
             .chain(moved)
             .filter(|(_, count, wanted)| count < wanted)
@@ -115,6 +144,28 @@ fn place(command: &[u8]) -> usize {
         .iter()
         .position(|(_, _, c, i)| c == cla && i == ins)
         .unwrap_or(OTHER)
+}
+
+/// How a SEARCH RECORD names its file, as a place in [`REFERENCES`]; none where it is not written as
+/// a search is.
+fn search_reference(command: &[u8]) -> Option<usize> {
+    let (header, body) = command.split_at_checked(5)?;
+    if place(header) != place(&[0x00, 0xA2]) {
+        return None;
+    }
+    let data = if header[4] == 0 { body.get(2..)? } else { body };
+    let inside = match data.strip_prefix(&[0x7F, 0x76])? {
+        [0x82, ..] => data.get(5..)?,
+        [0x81, ..] => data.get(4..)?,
+        _ => data.get(3..)?,
+    };
+    match inside {
+        [0x51, 2, ..] => Some(0),
+        [0x51, 1, 0x01 | 0x02 | 0x03 | 0x1A | 0x1E, ..] => Some(1),
+        [0x51, 1, 0x08 | 0x10 | 0x18 | 0xD0 | 0xF0, ..] => Some(2),
+        [0x51, 1, ..] => Some(3),
+        _ => None,
+    }
 }
 
 impl fmt::Display for Tally {
@@ -143,7 +194,19 @@ impl fmt::Display for Tally {
             write!(f, " {} |", self.total(status))?;
         }
         writeln!(f, "\n")?;
-        writeln!(f, "| refusal | times |\n|---|---|")?;
+        write!(f, "| a search by |")?;
+        for status in SEARCH_STATUSES {
+            write!(f, " {status:04X} |")?;
+        }
+        writeln!(f, "\n|---|---|---|---|---|---|---|")?;
+        for (reference, name) in REFERENCES.iter().enumerate() {
+            write!(f, "| {name} |")?;
+            for status in SEARCH_STATUSES {
+                write!(f, " {} |", self.searched(reference, status))?;
+            }
+            writeln!(f)?;
+        }
+        writeln!(f, "\n| refusal | times |\n|---|---|")?;
         for (number, count) in self.refusals.iter().enumerate() {
             writeln!(f, "| {number} | {count} |")?;
         }

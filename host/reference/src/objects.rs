@@ -146,9 +146,12 @@ impl<'a> Search<'a> {
     }
 }
 
-/// The file of a search. One byte is the short id itself, not shifted as it is in FMM.
+/// The file of a search. Readers write one byte in two ways: the short id itself, or the short id
+/// in the upper five bits, with zeros below, as in FMM. No file's short id ends in three zero bits,
+/// so no byte means two files.
 fn search_file(value: &[u8]) -> Option<FileName> {
     match *value {
+        [byte] if byte & 0x07 == 0 => Some(FileName::ShortId(byte >> 3)),
         [short_id] => Some(FileName::ShortId(short_id)),
         [high, low] => Some(FileName::Id(u16::from_be_bytes([high, low]))),
         _ => None,

@@ -1,10 +1,11 @@
-//! The card to try with its commands m1 to m10, the refusals, the order of status words, and a smoke
-//! test over random and changed inputs.
+//! The card to try with its commands m1 to m10, the refusals, the order of status words, file
+//! references of one byte, and a smoke test over random and changed inputs.
 
 use reference::{command, open, SESSION_LEN};
 
 const RESPONSE_LEN: usize = 2_060;
 const FILL: u8 = 0xEE;
+const MASTER_FILE: &str = "00A4000C023F00";
 const TRAVEL: &str = "00A4040C07A0000002472001";
 const VISA: &str = "00A4040C07A0000002472002";
 const BIOMETRICS: &str = "00A4040C07A0000002472003";
@@ -207,6 +208,29 @@ fn m1_to_m10() {
     assert_eq!(card.run(&append(0x08, &[0x55; 392])), (vec![], 0x6700));
     assert_eq!(card.run(&append(0x08, &[0x55; 391])), (vec![], 0x6A84));
     card.fails("00B2010400", 0x6700); // m10
+}
+
+#[test]
+fn m6_with_either_byte_of_its_file() {
+    let mut card = Machine::all_rights(travel_image(40));
+    card.ok(TRAVEL);
+    card.ok("00E20008065F4403555341");
+    card.ok("00E20008065F4403465241");
+    for (search, reply) in [
+        (
+            "00A200F81C7F7619510101A10B800100B006020103020103A307B105810346524100",
+            "7F7606510101020102",
+        ),
+        (
+            "00A200F81C7F7619510108A10B800100B006020103020103A307B105810346524100",
+            "7F7606510108020102",
+        ),
+    ] {
+        card.ok(TRAVEL);
+        assert_eq!(card.place(), (1, 0, 0, 0));
+        card.expect(search, reply, 0x9000);
+        assert_eq!(card.place(), (1, 2, 0x0101, 2));
+    }
 }
 
 #[test]
@@ -572,6 +596,7 @@ fn master_file_rules() {
     card.expect("00B0000102", "0386", 0x9000);
     card.expect("00B00001000002", "0386", 0x9000);
     card.fails("00B0800000", 0x6A82);
+    card.fails("00B0880000", 0x6A82);
     card.fails("00B0A10000", 0x6A86);
     card.fails("00B0C10000", 0x6A86);
     card.fails("00B08100", 0x6700);
@@ -786,6 +811,7 @@ fn search_rules() {
     card.fails(&by_id[..by_id.len() - 2], 0x6700);
     card.fails(&(by_id[..by_id.len() - 2].to_string() + "01"), 0x6700);
     card.fails(&template("0103", "00", open, "03"), 0x6A82);
+    card.fails(&template("0108", "00", open, "03"), 0x6A82);
     card.fails(&template("00", "00", open, "03"), 0x6A82);
     card.fails(&template("03", "00", open, "03"), 0x6A82);
     card.fails(&template("21", "00", open, "03"), 0x6A82);
@@ -814,6 +840,228 @@ fn search_rules() {
     card.fails(&template("01", "00", "020107020101", "0505"), 0x6282);
     card.ok("00A4000C023F00");
     card.fails(&template("01", "00", open, "03"), 0x6981);
+}
+
+// ---------------------------------------------------------------- file references of one byte
+
+/// Looks for the byte 46 in the file that the byte `__` names, and lists all matches.
+const SEARCH: &str = "00A200F81A7F76175101__A10B800100B006020100020100A305B10381014600";
+
+/// The bytes with low bits 000.
+const LOW_000: &str = "00 08 10 18 20 28 30 38 40 48 50 58 60 68 70 78 \
+                       80 88 90 98 A0 A8 B0 B8 C0 C8 D0 D8 E0 E8 F0 F8";
+/// The bytes with low bits 100 or 101.
+const LOW_100_101: &str = "04 05 0C 0D 14 15 1C 1D 24 25 2C 2D 34 35 3C 3D \
+                           44 45 4C 4D 54 55 5C 5D 64 65 6C 6D 74 75 7C 7D \
+                           84 85 8C 8D 94 95 9C 9D A4 A5 AC AD B4 B5 BC BD \
+                           C4 C5 CC CD D4 D5 DC DD E4 E5 EC ED F4 F5 FC FD";
+
+/// Every file that a card can have. One record of each record file is 46: record 1 of the first
+/// file, up to record 6 of the sixth. All other records are 11.
+fn image_of_all_files() -> Vec<u8> {
+    let with_match = |number: usize| {
+        let mut all = vec![vec![0x11]; 6];
+        all[number - 1] = vec![0x46];
+        records(40, &all)
+    };
+    let mut sections = vec![
+        (0x0101, with_match(1)),
+        (0x0102, with_match(2)),
+        (0x011A, with_match(3)),
+        (0x0203, with_match(4)),
+        (0x021A, with_match(5)),
+        (0x031A, with_match(6)),
+    ];
+    sections.extend((0x0401..=0x0440).map(|kind| (kind, biometrics(0, 4, &[0x46]))));
+    image(&sections)
+}
+
+/// A new card of all files, after a first command.
+fn card_of_all_files(select: &str) -> Machine {
+    let mut card = Machine::all_rights(image_of_all_files());
+    card.ok(select);
+    card
+}
+
+/// The text with a byte in place of `__`.
+fn with_byte(text: &str, byte: u8) -> String {
+    text.replace("__", &format!("{byte:02X}"))
+}
+
+/// Runs a command with each of the 256 bytes, each on a new card. A row has bytes and the status
+/// that they get; the last row with a byte counts. A byte in no row gets the status `others`.
+#[track_caller]
+fn expect_by_byte(select: &str, text: &str, others: u16, rows: &[(&str, u16)]) {
+    for byte in 0x00..=0xFF {
+        let row = rows.iter().rfind(|(bytes, _)| hex(bytes).contains(&byte));
+        let expected = row.map_or(others, |(_, status)| *status);
+        let (_, status) = card_of_all_files(select).run(&hex(&with_byte(text, byte)));
+        assert_eq!(
+            format!("{status:04X}"),
+            format!("{expected:04X}"),
+            "{text} with {byte:02X}"
+        );
+    }
+}
+
+#[test]
+fn search_by_every_byte() {
+    // The bytes of a file, its id, and the record that matches there.
+    let travel = [
+        ("01 08", 0x0101, 1),
+        ("02 10", 0x0102, 2),
+        ("1A D0", 0x011A, 3),
+    ];
+    let visa = [("03 18", 0x0103, 4), ("1A D0", 0x011A, 5)];
+    let biometrics = [("1A D0", 0x011A, 6)];
+    for (application, select, files) in [
+        (1, TRAVEL, &travel[..]),
+        (2, VISA, &visa),
+        (3, BIOMETRICS, &biometrics),
+    ] {
+        for byte in 0x00..=0xFF {
+            let mut card = card_of_all_files(select);
+            let search = with_byte(SEARCH, byte);
+            let file = files.iter().find(|(bytes, ..)| hex(bytes).contains(&byte));
+            if let Some((_, id, record)) = file {
+                let reply = format!("7F76065101{byte:02X}0201{record:02X}");
+                card.expect(&search, &reply, 0x9000);
+                assert_eq!(card.place(), (application, 2, *id, *record));
+            } else {
+                card.fails(&search, 0x6A82);
+            }
+        }
+    }
+}
+
+#[test]
+fn search_by_every_byte_in_the_master_file() {
+    expect_by_byte(MASTER_FILE, SEARCH, 0x6A82, &[("01 08 1E F0", 0x6981)]);
+}
+
+#[test]
+fn search_by_00_is_not_of_the_current_file() {
+    for (select, file) in [
+        (MASTER_FILE, "00A4020C022F01"),
+        (TRAVEL, "00A4020C020101"),
+        (VISA, "00A4020C020103"),
+        (BIOMETRICS, "00A4020C02011A"),
+    ] {
+        let mut card = card_of_all_files(select);
+        card.ok(file);
+        card.fails(&with_byte(SEARCH, 0x00), 0x6A82);
+    }
+}
+
+/// Runs one search with the two bytes on two cards that are alike, and gives its status. The cards
+/// are alike again then, and the replies differ in the byte repeated alone.
+#[track_caller]
+fn search_with_either(cards: &mut [Machine; 2], search: &str, bytes: [u8; 2]) -> u16 {
+    let [plain, upper] = cards;
+    let (data, status) = plain.run(&hex(&with_byte(search, bytes[0])));
+    let (upper_data, upper_status) = upper.run(&hex(&with_byte(search, bytes[1])));
+    assert_eq!(status, upper_status, "{search} with {bytes:02X?}");
+    assert_eq!(plain.session, upper.session);
+    assert_eq!(plain.image, upper.image);
+
+    assert_eq!(data.len(), upper_data.len());
+    let different: Vec<[u8; 2]> = data
+        .into_iter()
+        .zip(upper_data)
+        .filter(|(here, there)| here != there)
+        .map(|(here, there)| [here, there])
+        .collect();
+    if status == 0x9000 {
+        assert_eq!(different, [bytes]);
+    } else {
+        assert!(different.is_empty());
+    }
+    status
+}
+
+#[test]
+fn a_search_with_either_byte_does_the_same() {
+    let matches = |count| records(1_000, &vec![hex("5F46"); count]);
+    let card_image = image(&[
+        (0x0101, matches(84)),
+        (0x0102, matches(83)),
+        (0x011A, matches(1)),
+        (0x0203, matches(84)),
+        (0x021A, matches(83)),
+        (0x031A, matches(64)),
+    ]);
+    let only_first = SEARCH.replace("800100", "800130");
+    let no_mode = SEARCH.replace("800100", "800101");
+    let behind_the_records = SEARCH.replace("020100020100", "020102020100");
+    let extended = SEARCH.replace("00F81A", "00F800001A") + "00";
+    let mut statuses = std::collections::BTreeSet::new();
+    for rights in [vec![0xFF; 60], biometrics_rights(0x00)] {
+        for select in [MASTER_FILE, TRAVEL, VISA, BIOMETRICS] {
+            let mut cards = [(); 2].map(|()| Machine::new(card_image.clone(), &rights));
+            for card in &mut cards {
+                card.ok(select);
+            }
+            for search in [
+                SEARCH,
+                &only_first,
+                &no_mode,
+                &behind_the_records,
+                &extended,
+            ] {
+                for bytes in [
+                    [0x01, 0x08],
+                    [0x02, 0x10],
+                    [0x03, 0x18],
+                    [0x1A, 0xD0],
+                    [0x1E, 0xF0],
+                ] {
+                    statuses.insert(search_with_either(&mut cards, search, bytes));
+                }
+            }
+            assert!(cards.iter().all(|card| card.image == card_image));
+        }
+    }
+    let all = [0x6282, 0x6700, 0x6981, 0x6982, 0x6A80, 0x6A82, 0x9000];
+    assert_eq!(Vec::from_iter(statuses), all);
+}
+
+#[test]
+fn fmm_by_every_byte() {
+    for (select, named) in [
+        (MASTER_FILE, "08 F0"),
+        (TRAVEL, "08 10 D0"),
+        (VISA, "18 D0"),
+        (BIOMETRICS, "D0"),
+    ] {
+        let rows = [(LOW_000, 0x6A82), (named, 0x9000)];
+        expect_by_byte(select, "805E0100035101__00", 0x6A80, &rows);
+    }
+}
+
+#[test]
+fn append_by_every_p2() {
+    for (select, named, status) in [
+        (MASTER_FILE, "08 F0", 0x6981),
+        (TRAVEL, "08 10 D0", 0x9000),
+        (VISA, "18 D0", 0x9000),
+        (BIOMETRICS, "D0", 0x9000),
+    ] {
+        let rows = [(LOW_000, 0x6A82), ("00", 0x6986), (named, status)];
+        expect_by_byte(select, "00E200__0155", 0x6A86, &rows);
+    }
+}
+
+#[test]
+fn read_record_by_every_p2() {
+    for (select, named, status) in [
+        (MASTER_FILE, "0C 0D F4 F5", 0x6981),
+        (TRAVEL, "0C 0D 14 15 D4 D5", 0x9000),
+        (VISA, "1C 1D D4 D5", 0x9000),
+        (BIOMETRICS, "D4 D5", 0x9000),
+    ] {
+        let rows = [(LOW_100_101, 0x6A82), ("04 05", 0x6986), (named, status)];
+        expect_by_byte(select, "00B201__000000", 0x6A86, &rows);
+    }
 }
 
 // ---------------------------------------------------------------- smoke test
