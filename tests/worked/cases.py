@@ -1,8 +1,9 @@
 #!/usr/bin/env python3
 """Makes what the program `test_worked` is run on, and what it must write: crates/test_worked/stdin and stdout.
 
-The cases are the card to try of docs/RULES.md. The answers are the ones that its source prints; the bytes of an image and of a
-long reply are built here, from the rules of the card image and of SEARCH RECORD. Nothing is taken from the program.
+The cases are the card to try of docs/RULES.md, and searches by every byte. The answers to the card are the ones that its source prints,
+those to the other searches follow clause Q4; the bytes of an image and of a reply are built here, from the rules of the card image and
+of SEARCH RECORD. Nothing is taken from the program.
 
 usage: python3 tests/worked/cases.py [--count]     (the same cases each time; --count says how many calls there are)
 """
@@ -132,8 +133,8 @@ def many_matches():
     look(travel(2000, *kept))
 
 
-# application selected, and the bytes by which a search means one of its files: the short id itself, or in b8 to b4; behind them the
-# number of the record that matches there, or the status word
+# the SELECT of the master file or of an application, and the bytes by which a search means one of its files: the short id itself, or in
+# b8 to b4; behind a byte the number of the record that matches there, or the status word
 SPELLINGS = [("00A4000C023F00", {0x01: "6981", 0x08: "6981", 0x1E: "6981", 0xF0: "6981"}),
              (SELECT_TRAVEL, {0x01: 1, 0x08: 1, 0x02: 2, 0x10: 2, 0x1A: 3, 0xD0: 3}),
              ("00A4040C07A0000002472002", {0x03: 4, 0x18: 4, 0x1A: 5, 0xD0: 5}),
@@ -141,7 +142,7 @@ SPELLINGS = [("00A4000C023F00", {0x01: "6981", 0x08: "6981", 0x1E: "6981", 0xF0:
 
 
 def every_byte():
-    """A search by each of the 256 bytes in each application. In the nth record file the nth record alone matches."""
+    """A search by each of the 256 bytes, wherever one can be. In the nth record file the nth record alone matches."""
     kinds = [0x0101, 0x0102, 0x011A, 0x0203, 0x021A, 0x031A]
     image = b"".join(section(kind, records(60, *[bytes.fromhex(USA)] * n, bytes.fromhex(FRA))) for n, kind in enumerate(kinds))
     image += section(0x0401, biometrics(0, bytes.fromhex(FRA), 6))

@@ -1,14 +1,15 @@
--- The data of an answer, and what an accepted call is. Read ../specs/Promises.antt before. Exports `data-said`, `step-accepted`,
--- `taken-accepted`, `accepted-room`, `accepted-facts`, `status-accepted`.
+-- The data of an answer, and what an accepted call is. Read ../specs/Promises.antt before. Exports `data-said`, `behind-said`,
+-- `step-accepted`, `taken-accepted`, `accepted-room`, `accepted-facts`, `status-accepted`.
 use Prim.Native.Nat.{ℕ, _+_, _-_, _≤_}
 use mathlib.Core.Path.{_≡_, refl, sym, ap, ap₂, subst, _∙_}
 use mathlib.Core.Bool.{true}
 use mathlib.Core.List.{List, _++_}
 use native.Mathlib.Omega.{arith}
-use lib.ListN.{length, take, length-append}
+use lib.ListN.{length, take, drop, length-append}
 use lib.Dec.{ltb}
 use lib.Seq.{sets, take-take, take-append-seam}
-use Rattle.base.proofs.Runs.{put-accepted, part-sets}
+use Rattle.base.specs.Bytes.{put}
+use Rattle.base.proofs.Runs.{put-accepted, part-sets, sets-append, drop-sets-add, drop-sets-past}
 use Rattle.base.proofs.Cases.{ifElse-ind}
 use Rattle.store_image.specs.Image.{wellFormed}
 use Rattle.machine_session.specs.Session.{sessionFits}
@@ -35,6 +36,19 @@ data-said w dat s img buf h r =
     ∙ sym (take-take (length dat) (length vs) (sets buf 0 vs) (omega arith))
     ∙ ap (take (length dat)) (part-sets buf 0 vs (omega arith))
     ∙ take-append-seam dat (word w)
+
+-- behind n bytes of data stand the status word and the buffer as it was
+pub behind-said : (w : ℕ) (dat buf : List ℕ) (n : ℕ) → length dat ≡ n → n + 2 ≤ length buf → drop (n + 2 - 2) (put buf 0 (dat ++ word w)) ≡ sets (drop n buf) 0 (word w)
+unfolding word
+behind-said w dat buf n l room =
+    let m : n + 2 - 2 ≡ n = omega arith in
+    let at : 0 + length dat ≡ n + 0 = omega (arith, l) in
+    ap₂ (λ (k : ℕ) (b : List ℕ). drop k b) m
+    (put-accepted buf 0 (dat ++ word w) (omega (arith, l, length-append dat (word w)))
+    ∙ sets-append buf 0 dat (word w)
+    ∙ ap (λ (k : ℕ). sets (sets buf 0 dat) k (word w)) at)
+    ∙ drop-sets-add n (sets buf 0 dat) 0 (word w)
+    ∙ ap (λ (b : List ℕ). sets b 0 (word w)) (drop-sets-past n buf 0 dat (omega (arith, l)))
 
 -- an accepted call
 pub step-accepted : (img : List ℕ) (s : Session) (cmd buf : List ℕ) → verdictOn img s (length buf) ≡ Accepted → step img s cmd buf ≡ done (decide img s cmd) img s (dataOf cmd) buf

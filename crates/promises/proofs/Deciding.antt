@@ -1,5 +1,5 @@
--- The bytes of a well-formed, permitted SEARCH RECORD are decided as a search of its fields (`search-decided-complete`), and whatever is
--- decided as a search is such a command (`search-decided-sound`). Read before: ../specs/Promises.antt, section 3.
+-- The bytes of a well-formed SEARCH RECORD come to what steps 7 to 9 answer of its reference (`search-reached`). A permitted one is decided as
+-- a search of its fields (`search-decided-complete`), and whatever is decided as a search is such a command (`search-decided-sound`). Read before: ../specs/Promises.antt, section 3.
 use Prim.Native.Nat.{ℕ, _≤_}
 use mathlib.Core.Path.{_≡_, refl, sym, ap, subst, _∙_}
 use mathlib.Core.Bool.{Bool, true, false}

@@ -1,8 +1,9 @@
 -- What steps 7 to 9 answer is the file that the command means: the machine's look-ups find what ../specs/Files.antt says (`record-meant` and
--- its like), and a record file that is meant is found (`meant-resolved`). Read before: ../specs/Files.antt.
+-- its like), and a record file that is meant is found (`meant-resolved`). No short id ends in 000 (`spellings-apart`), so that a byte of a
+-- search means one file only (`byte-means-one`). Read before: ../specs/Files.antt.
 use Prim.Native.Nat.{ℕ, _-_, _%_}
 use mathlib.Core.Path.{_≡_, refl, sym, ap, ap₂, subst, _∙_}
-use mathlib.Core.Bool.{Bool, true, false, _||_}
+use mathlib.Core.Bool.{Bool, true, false, _||_, or-false}
 use mathlib.Core.List.{List, [], _∷_, List·Memᴰ}
 use native.Mathlib.Omega.{arith}
 use lib.ListN.{length, getD}
@@ -229,7 +230,7 @@ abbrev pub Listed : File → Type 0
 Listed (RecordFile r) = List·Memᴰ r rules
 Listed (TransparentFile t) = Unit {0}
 
--- no short id of a file has 000 in its low bits, so that a byte of a search never means two files
+-- no short id of a file has 000 in its low bits
 spellings-apart : (f : File) → Listed f → (x : ℕ) → isShortOf f x ≡ true → x % 8 ≡ 0 → ⊥
 unfolding isShortOf
 spellings-apart (RecordFile r) m x h z = let e = eqb-true (r .short) x h in let l = listed-regular r m .low-bits in omega (arith, ap (λ (k : ℕ). k % 8) e)
@@ -237,11 +238,7 @@ spellings-apart (TransparentFile Info) m x h z = let e = eqb-true x 0x01 h in om
 spellings-apart (TransparentFile Dir) m x h z = let e = eqb-true x 0x1E h in omega (arith, e, z)
 spellings-apart (TransparentFile (Biometrics n)) m x h z = false-true h
 
-or-false : (x : Bool) → (x || false) ≡ x
-or-false true = refl
-or-false false = refl
-
--- so a byte means a file in either spelling exactly where its low bits tell so
+-- so a byte that means a file in either spelling means the file of `searchShort`
 byte-meant : (s : Session) (b : ℕ) (f : File) → Listed f → isMeantByByte s b f ≡ isMeant s (Short (searchShort b)) f
 unfolding isMeantByByte searchShort isMeant
 byte-meant s b f m = by-cases (eqb (b % 8) 0) (λ z. simp (z, plain z)) (λ z. simp z (or-false (isMeant s (Short b) f)))
@@ -300,6 +297,37 @@ module _ (s : Session) (r : Rule) (m : List·Memᴰ r rules) where
         at Nowhere e c = false-true c
         at (OnFile i) e c = on i e c
         at (OnRecord i n) e c = on i e c
+
+-- ---- a byte of a search means one file only
+
+module _ (s : Session) (x : ℕ) where
+  abbrev Means-it : File → Type 0
+  Means-it f = isMeant s (Short x) f ≡ true
+
+  -- a transparent file has a short id in the master file only, and a record file is in no master file
+  master : (t : Transparent) → Means-it (TransparentFile t) → s .application ≡ 0
+  unfolding isMeant applicationOfFile isShortOf
+  master Info h = sym (eqb-true 0 (s .application) (allOf-facts _ h .0))
+  master Dir h = sym (eqb-true 0 (s .application) (allOf-facts _ h .0))
+  master (Biometrics n) h = false-true (allOf-facts _ h .1 .0)
+
+  not-master : {A : Type 0} (r : Rule) → List·Memᴰ r rules → Means-it (RecordFile r) → s .application ≡ 0 → A
+  not-master r m h z = let l = listed-regular r m .first in absurd (omega (arith, home s r m (Short x) h))
+
+  found-master : (t : Transparent) → Means-it (TransparentFile t) → masterBy 0x01 0x1E x ≡ Known (TransparentFile t)
+  unfolding masterBy isMeant isShortOf
+  found-master Info h = ap (masterBy 0x01 0x1E) (eqb-true x 0x01 (allOf-facts _ h .1 .0))
+  found-master Dir h = ap (masterBy 0x01 0x1E) (eqb-true x 0x1E (allOf-facts _ h .1 .0))
+  found-master (Biometrics n) h = false-true (allOf-facts _ h .1 .0)
+
+  one-short : (f g : File) → Listed f → Listed g → Means-it f → Means-it g → f ≡ g
+  one-short (RecordFile q) (RecordFile r) a b h k = let e = sym (by-short s q a x h) ∙ by-short s r b x k in cc
+  one-short (RecordFile q) (TransparentFile t) a b h k = not-master q a h (master t k)
+  one-short (TransparentFile t) (RecordFile r) a b h k = not-master r b k (master t h)
+  one-short (TransparentFile t) (TransparentFile u) a b h k = let e = sym (found-master t h) ∙ found-master u k in cc
+
+pub byte-means-one : (s : Session) (b : ℕ) (f g : File) → Listed f → Listed g → isMeantByByte s b f ≡ true → isMeantByByte s b g ≡ true → f ≡ g
+byte-means-one s b f g m n h k = one-short s (searchShort b) f g m n (sym (byte-meant s b f m) ∙ h) (sym (byte-meant s b g n) ∙ k)
 
 -- ---- P2 means one record file only
 

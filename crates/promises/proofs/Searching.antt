@@ -1,5 +1,5 @@
 -- SEARCH RECORD names exactly the records of a file's history that match. Read ../specs/Promises.antt, section 3, before. Exports
--- `leaves-none-out`, and what is listed and replied (`numbers`, `hits-are`, `reply-is`).
+-- `leaves-none-out`, and what is listed and replied (`numbers`, `hits-are`, `reply-is`, `file-short`).
 use Prim.Native.Nat.{ℕ, _+_, _-_, _≤_}
 use mathlib.Core.Path.{_≡_, refl, sym, ap, ap₂, subst, _∙_}
 use mathlib.Core.Bool.{Bool, true, false}

@@ -1,19 +1,17 @@
 -- A search is answered alike in both spellings of its file's short id. Read ../specs/Promises.antt, `Both-spellings`, before. Exports
 -- `both-spellings`.
-use Prim.Native.Nat.{ℕ, _+_, _-_, _*_, _%_, _≤_}
-use mathlib.Core.Path.{_≡_, refl, sym, ap, ap₂, subst, _∙_}
+use Prim.Native.Nat.{ℕ, _*_, _%_, _≤_}
+use mathlib.Core.Path.{_≡_, refl, sym, ap, subst, _∙_}
 use mathlib.Core.List.{List, [], _∷_, _++_}
 use native.Mathlib.Omega.{arith}
-use lib.ListN.{length, drop, getD, length-append}
-use lib.Seq.{sets}
+use lib.ListN.{length, getD}
 use lib.Dec.{leb, eqb, lit≤}
-use borrow.Author.Tests.{eqb-false}
+use borrow.Author.Tests.{eqb-false, ltb-true}
 use Rattle.base.specs.Choice.{ifElse}
-use Rattle.base.specs.Bytes.{put}
 use Rattle.base.proofs.Cases.{by-cases}
-use Rattle.base.proofs.Runs.{put-accepted, sets-append, drop-sets-add, drop-sets-past}
 use Rattle.store_image.specs.Image.{recordsOf}
 use Rattle.store_kinds.specs.declared.rules.Rule.{Rule}
+use Rattle.objects_writer.specs.Writing.{tlv, tagBytes, lengthBytes}
 use Rattle.objects_templates.specs.Search.{SearchFields}
 use Rattle.machine_session.specs.Order.{inOrder}
 use Rattle.machine_session.specs.Resolve.{resolveRecord}
@@ -32,61 +30,56 @@ use Rattle.machine_action.specs.Tests.{onRecord}
 use Rattle.machine_action.specs.declared.Action.{Action}
 use Rattle.machine_record.specs.SearchRecord.{searchNamed, searchOn, searchStatus}
 use Rattle.machine_record.proofs.Spelling.{searchNamed-alike}
-use Rattle.machine_dispatch.specs.Decide.{decide, dataOf}
-use Rattle.machine_reply_search.specs.Found.{foundData}
+use Rattle.machine_dispatch.specs.Decide.{dataOf}
+use Rattle.machine_reply_search.specs.Found.{listed, foundData}
 use Rattle.machine_reply_search.proofs.Listing.{found-length}
-use Rattle.machine_answer.specs.Outcome.{Outcome, outcome, word, answered, refused, says}
+use Rattle.machine_answer.specs.Outcome.{Outcome, outcome, answered, refused, says}
 use Rattle.machine.specs.Effects.{searched, done}
 use Rattle.machine.specs.Step.{verdictOn, stepBy, step}
 use Rattle.machine.proofs.Seeking.{reply-short}
 use Rattle.promises.specs.Promises.{SearchCommand, withFile, Alike, Both-spellings}
-use Rattle.promises.proofs.Answering.{data-said, step-accepted, accepted-room, accepted-facts}
+use Rattle.promises.proofs.Answering.{data-said, behind-said, step-accepted, accepted-room, accepted-facts}
 use Rattle.promises.proofs.Deciding.{Reached, search-reached}
 use Rattle.promises.proofs.Searching.{numbers, hits-are, reply-is, file-short}
-use Rattle.promises.proofs.Wording.{refusing-not, Worded, decide-word}
 
 -- ---- outcomes that are alike
 
 -- an outcome is like itself where its status is not 9000
-same : (v w : List ℕ) (o : Outcome) → (o .answer .status ≡ 0x9000 → ⊥) → Alike v w o o
-same v w o n = record { answer = refl; image = refl; naming = λ e. absurd (n e); behind = refl; silent = λ _. refl }
+alike-itself : (y z : ℕ) (o : Outcome) → (o .answer .status ≡ 0x9000 → ⊥) → Alike y z o o
+alike-itself y z o n = record { answer = refl; image = refl; repeats = λ e. absurd (n e); behind = refl; silent = λ _. refl }
 
-word-alike : (v w img : List ℕ) (s : Session) (buf : List ℕ) (k : ℕ) → (k ≡ 0x9000 → ⊥) → Alike v w (says k [] s img buf) (says k [] s img buf)
+word-alike : (y z : ℕ) (img : List ℕ) (s : Session) (buf : List ℕ) (k : ℕ) → (k ≡ 0x9000 → ⊥) → Alike y z (says k [] s img buf) (says k [] s img buf)
 unfolding says
-word-alike v w img s buf k n = same v w (says k [] s img buf) n
+word-alike y z img s buf k n = alike-itself y z (says k [] s img buf) n
 
--- behind n bytes of data stand the status word and the buffer as it was
-behind-data : (dat buf : List ℕ) (n : ℕ) → length dat ≡ n → n + 2 ≤ length buf → drop (n + 2 - 2) (put buf 0 (dat ++ word 0x9000)) ≡ sets (drop n buf) 0 (word 0x9000)
-unfolding word
-behind-data dat buf n l room =
-    let m : n + 2 - 2 ≡ n = omega arith in
-    let at : 0 + length dat ≡ n + 0 = omega (arith, l) in
-    ap₂ (λ (k : ℕ) (b : List ℕ). drop k b) m
-    (put-accepted buf 0 (dat ++ word 0x9000) (omega (arith, l, length-append dat (word 0x9000)))
-    ∙ sets-append buf 0 dat (word 0x9000)
-    ∙ ap (λ (k : ℕ). sets (sets buf 0 dat) k (word 0x9000)) at)
-    ∙ drop-sets-add n (sets buf 0 dat) 0 (word 0x9000)
-    ∙ ap (λ (b : List ℕ). sets b 0 (word 0x9000)) (drop-sets-past n buf 0 dat (omega (arith, l)))
+-- a reply by one byte has it behind its own tag and length, and is as long as a reply by another
+module _ (ns : List ℕ) where
+  abbrev before : List ℕ
+  before = tagBytes 0x7F76 ++ lengthBytes (length (0x51 ∷ 0x01 ∷ 0x00 ∷ listed ns))
 
--- replies that are as long as each other and name the same records
-found-alike : (v w ns img : List ℕ) (s : Session) (buf : List ℕ) → length (foundData w ns) ≡ length (foundData v ns) → length (foundData v ns) ≤ 2048 → 2050 ≤ length buf
-    → Alike v w (says 0x9000 (foundData v ns) s img buf) (says 0x9000 (foundData w ns) s img buf)
+  found-is : (b : ℕ) → foundData (b ∷ []) ns ≡ before ++ (0x51 ∷ 0x01 ∷ b ∷ listed ns)
+  unfolding foundData tlv tagBytes lengthBytes
+  found-is b = refl
+
+  same-length : (a b : ℕ) → length (foundData (a ∷ []) ns) ≡ length (foundData (b ∷ []) ns)
+  same-length a b = sym (found-length (a ∷ []) ns (lit≤ tt)) ∙ found-length (b ∷ []) ns (lit≤ tt)
+
+found-alike : (y z : ℕ) (ns img : List ℕ) (s : Session) (buf : List ℕ) → length (foundData (y ∷ []) ns) ≤ 2048 → 2050 ≤ length buf
+    → Alike y z (says 0x9000 (foundData (y ∷ []) ns) s img buf) (says 0x9000 (foundData (z ∷ []) ns) s img buf)
 unfolding says
-found-alike v w ns img s buf e short room =
-    let n : ℕ = length (foundData v ns) in
+found-alike y z ns img s buf short room =
+    let v : List ℕ = foundData (y ∷ []) ns in
+    let w : List ℕ = foundData (z ∷ []) ns in
+    let e : length w ≡ length v = same-length ns z y in
     record {
       answer = ap (λ (k : ℕ). answered k 0x9000 s) e;
       image = refl;
-      naming = λ _. (ns, data-said 0x9000 (foundData v ns) s img buf short room, data-said 0x9000 (foundData w ns) s img buf (omega (arith, e)) room);
-      behind = behind-data (foundData w ns) buf n e (omega arith) ∙ sym (behind-data (foundData v ns) buf n refl (omega arith));
+      repeats = λ _. (before ns, listed ns, data-said 0x9000 v s img buf short room ∙ found-is ns y, data-said 0x9000 w s img buf (omega (arith, e)) room ∙ found-is ns z);
+      behind = behind-said 0x9000 w buf (length v) e (omega arith) ∙ sym (behind-said 0x9000 v buf (length v) refl (omega arith));
       silent = λ k. absurd (k refl);
     }
 
 -- ---- what a search for the fields x comes to with the byte b as its reference
-
--- any other byte makes a reply of the same length
-same-length : (a b : ℕ) (ns : List ℕ) → length (foundData (a ∷ []) ns) ≡ length (foundData (b ∷ []) ns)
-same-length a b ns = sym (found-length (a ∷ []) ns (lit≤ tt)) ∙ found-length (b ∷ []) ns (lit≤ tt)
 
 module _ (img : List ℕ) (s : Session) (buf : List ℕ) (f : Frame) (x : SearchFields) (some : 1 ≤ length (x .text)) where
   abbrev matched : Rule → List ℕ
@@ -111,6 +104,9 @@ module _ (img : List ℕ) (s : Session) (buf : List ℕ) (f : Frame) (x : Search
       abbrev resolved : ResolvedRecord
       resolved = resolveRecord img s Read (searchNamed (b ∷ []))
 
+      abbrev ok : RecordOk img s Read resolved
+      ok = resolveRecord-wellFormed img s Read (searchNamed (b ∷ []))
+
       abbrev asked : Reached img s cmd f (withFile x (b ∷ []))
       asked = search-reached img s cmd f (withFile x (b ∷ [])) c
 
@@ -119,23 +115,23 @@ module _ (img : List ℕ) (s : Session) (buf : List ℕ) (f : Frame) (x : Search
       unfolding searched searchStatus
       at-file r e =
           let y : SearchFields = withFile x (b ∷ []) in
-          let g : RecordResolved img s Read r = subst (RecordOk img s Read) e (resolveRecord-wellFormed img s Read (searchNamed (b ∷ []))) in
+          let g : RecordResolved img s Read r = subst (RecordOk img s Read) e ok in
           let o = accepted-facts img s (length buf) a .0 in
           let h = hits-are img s (dataOf cmd) buf r (asked .query) (f .ne) y (asked .searches) o room (g .file .ok) in
           let p = reply-is img s (dataOf cmd) buf r (asked .query) (f .ne) y (asked .searches) o room (g .file .ok) in
           let k = file-short img s (dataOf cmd) buf r (asked .query) (f .ne) y (asked .searches) o room (g .file .ok) in
           (rw (h, p), subst (λ (m : List ℕ). length m ≤ 2048) p (reply-short img (dataOf cmd) r (asked .query) o (g .file .ok) k))
 
-      decided-by : (z : ResolvedRecord) → resolved ≡ z → decide img s cmd ≡ onRecord z (searchOn (asked .query) (f .ne))
-      decided-by z e = asked .decided ∙ ap (λ (y : ResolvedRecord). onRecord y (searchOn (asked .query) (f .ne))) e
-
       -- a status word of steps 7 to 9 is not 9000
       stops : (k : ℕ) → resolved ≡ RecordStop k → k ≡ 0x9000 → ⊥
-      stops k e = refusing-not k 0x9000 (subst Worded (decided-by (RecordStop k) e) (decide-word img s cmd)) refl
+      stops k e z = let h = ltb-true k 0x9000 (subst (RecordOk img s Read) e ok) in omega (arith, z)
 
       comes-to : (z : ResolvedRecord) → resolved ≡ z → step img s cmd buf ≡ answers z b
       unfolding done
-      comes-to z e = step-accepted img s cmd buf a ∙ ap (λ (y : Action). done y img s (dataOf cmd) buf) (decided-by z e) ∙ acts z e
+      comes-to z e =
+          step-accepted img s cmd buf a
+          ∙ ap (λ (y : Action). done y img s (dataOf cmd) buf) (asked .decided ∙ ap (λ (y : ResolvedRecord). onRecord y (searchOn (asked .query) (f .ne))) e)
+          ∙ acts z e
         where
           acts : (z : ResolvedRecord) → resolved ≡ z → done (onRecord z (searchOn (asked .query) (f .ne))) img s (dataOf cmd) buf ≡ answers z b
           acts (RecordStop k) e = refl
@@ -144,29 +140,23 @@ module _ (img : List ℕ) (s : Session) (buf : List ℕ) (f : Frame) (x : Search
 -- ---- the theorem
 
 module _ (img : List ℕ) (s : Session) (cmd other buf : List ℕ) (f : Frame) (x : SearchFields) (y : ℕ) (n : y % 8 ≡ 0 → ⊥) (c : SearchCommand cmd f (withFile x (y ∷ []))) (d : SearchCommand other f (withFile x (8 * y ∷ []))) where
-  abbrev v : List ℕ
-  v = y ∷ []
-
-  abbrev w : List ℕ
-  w = 8 * y ∷ []
-
   abbrev some : 1 ≤ length (x .text)
   some = c .sized .text-size
 
-  answers-alike : verdictOn img s (length buf) ≡ Accepted → (z : ResolvedRecord) → resolveRecord img s Read (searchNamed v) ≡ z → Alike v w (answers img s buf f x some z y) (answers img s buf f x some z (8 * y))
-  answers-alike a (RecordStop k) e = word-alike v w img s buf k (stops img s buf f x some a y cmd c k e)
+  answers-alike : verdictOn img s (length buf) ≡ Accepted → (z : ResolvedRecord) → resolveRecord img s Read (searchNamed (y ∷ [])) ≡ z → Alike y (8 * y) (answers img s buf f x some z y) (answers img s buf f x some z (8 * y))
+  answers-alike a (RecordStop k) e = word-alike y (8 * y) img s buf k (stops img s buf f x some a y cmd c k e)
   answers-alike a (RecordAt r) e =
       let ns = matched img s buf f x some r in
-      let l = same-length (8 * y) y ns in
+      let l = same-length ns (8 * y) y in
       by-cases (eqb (status img s buf f x some r y) normal)
-      (λ t. simp (l, t) (found-alike v w ns img (placed s (OnRecord (r .id) (getD ns 0 0))) buf l (at-file img s buf f x some a y cmd c r e .1) (accepted-room img s buf a)))
-      (λ t. simp (l, t) (word-alike v w img s buf (status img s buf f x some r y) (eqb-false _ _ t)))
+      (λ t. simp (l, t) (found-alike y (8 * y) ns img (placed s (OnRecord (r .id) (getD ns 0 0))) buf (at-file img s buf f x some a y cmd c r e .1) (accepted-room img s buf a)))
+      (λ t. simp (l, t) (word-alike y (8 * y) img s buf (status img s buf f x some r y) (eqb-false _ _ t)))
 
-  spelled-alike : (z : Verdict) → verdictOn img s (length buf) ≡ z → Alike v w (step img s cmd buf) (step img s other buf)
+  spelled-alike : (z : Verdict) → verdictOn img s (length buf) ≡ z → Alike y (8 * y) (step img s cmd buf) (step img s other buf)
   unfolding step stepBy
-  spelled-alike (Refused r) e = simp e (same v w (outcome (refused r s) img buf) (λ z. omega (arith, z)))
+  spelled-alike (Refused r) e = simp e (alike-itself y (8 * y) (outcome (refused r s) img buf) (λ z. omega (arith, z)))
   spelled-alike Accepted e =
-      let z = resolveRecord img s Read (searchNamed v) in
+      let z = resolveRecord img s Read (searchNamed (y ∷ [])) in
       simp (comes-to img s buf f x some e y cmd c z refl, comes-to img s buf f x some e (8 * y) other d z (ap (resolveRecord img s Read) (searchNamed-alike y n)))
       (answers-alike e z refl)
 

@@ -215,26 +215,28 @@ Search-refused =
 abbrev pub withFile : SearchFields → List ℕ → SearchFields
 withFile x v = record { file = v; mode = x .mode; offset = x .offset; number = x .number; text = x .text }
 
--- outcomes o and p are the same but for the file reference that the reply repeats: v in the one, w in the other [C22]
-pub record Alike (v w : List ℕ) (o p : Outcome) : Type 0 where
+-- outcomes o and p are the same but for the byte that the reply repeats: y in the one, z in the other [C22]
+pub record Alike (y z : ℕ) (o p : Outcome) : Type 0 where
   -- verdict, length, status word and session
   pub answer : p .answer ≡ o .answer
   pub image : p .image ≡ o .image
-  -- on 9000 both name the same records, and the buffers are the same behind the data
-  pub naming : o .answer .status ≡ 0x9000 → (ns : List ℕ) × (dataIn o ≡ foundData v ns) × (dataIn p ≡ foundData w ns)
+  -- on 9000 the data has `51` with that byte, and the same bytes around it
+  pub repeats : o .answer .status ≡ 0x9000
+      → (before rest : List ℕ) × (dataIn o ≡ before ++ (0x51 ∷ 0x01 ∷ y ∷ rest)) × (dataIn p ≡ before ++ (0x51 ∷ 0x01 ∷ z ∷ rest))
+  -- behind the data the buffers are the same
   pub behind : drop (o .answer .length - 2) (p .buffer) ≡ drop (o .answer .length - 2) (o .buffer)
-  -- otherwise no byte differs
+  -- without 9000 no byte differs
   pub silent : (o .answer .status ≡ 0x9000 → ⊥) → p .buffer ≡ o .buffer
 
--- a search of the file with short id y, and the same search with y in b8 to b4 of its reference; y does not end in 000, as no short id of
--- a file does [C22]
+-- a search by the byte y, and the same search with y in b8 to b4 of its byte, have outcomes alike, whether a file has the short id y or not.
+-- The low bits of y are not 000: no short id of a file has these [C22]
 abbrev pub Both-spellings : Type 0
 Both-spellings =
     (img : List ℕ) (s : Session) (cmd other buf : List ℕ) (f : Frame) (x : SearchFields) (y : ℕ)
     → (y % 8 ≡ 0 → ⊥)
     → SearchCommand cmd f (withFile x (y ∷ []))
     → SearchCommand other f (withFile x (8 * y ∷ []))
-    → Alike (y ∷ []) (8 * y ∷ []) (step img s cmd buf) (step img s other buf)
+    → Alike y (8 * y) (step img s cmd buf) (step img s other buf)
 
 -- ---- 4. No session is shut out: of the four refusals only the one for a short buffer can meet a session that the machine gave
 

@@ -12,8 +12,8 @@ pub const STATUSES: [u16; 14] = [
 ];
 
 /// How a search may name its file.
-const REFERENCES: [&str; 4] = ["id", "short id", "short id in b8 to b4", "other byte"];
-/// What a search that is well formed and may name a file is answered with.
+const WAYS: [&str; 4] = ["id", "short id", "short id in b8 to b4", "other byte"];
+/// The answers to them that are shown.
 const SEARCH_STATUSES: [u16; 6] = [0x9000, 0x6282, 0x6700, 0x6981, 0x6982, 0x6A82];
 
 /// What a move may be refused with.
@@ -29,7 +29,7 @@ pub struct Tally {
     pub moves: u64,
     /// By command (its place in [`NAMES`]) and status.
     statuses: BTreeMap<(usize, u16), u64>,
-    /// Searches by how they name their file (its place in [`REFERENCES`]) and status.
+    /// Searches by how they name their file (its place in [`WAYS`]) and status.
     searches: BTreeMap<(usize, u16), u64>,
     /// Of commands and openings.
     refusals: [u64; 5],
@@ -64,15 +64,15 @@ impl Tally {
         if result >> 32 == 0 {
             let key = (place(command), result as u16);
             *self.statuses.entry(key).or_default() += 1;
-            if let Some(reference) = search_reference(command) {
-                let key = (reference, result as u16);
+            if let Some(way) = search_way(command) {
+                let key = (way, result as u16);
                 *self.searches.entry(key).or_default() += 1;
             }
         }
     }
 
-    fn searched(&self, reference: usize, status: u16) -> u64 {
-        let key = (reference, status);
+    fn searched(&self, way: usize, status: u16) -> u64 {
+        let key = (way, status);
         self.searches.get(&key).copied().unwrap_or(0)
     }
 
@@ -96,8 +96,9 @@ impl Tally {
         self.moved.get(&refusal).copied().unwrap_or(0)
     }
 
-    /// What occurred too seldom: each status, each refusal, 9000 of each command, 9000 and 6981 of
-    /// a search by either spelling of a short id, 6A82 of one by another byte, moves done.
+    /// What occurred too seldom: each status, each refusal, 9000 of each command, 9000 of a
+    /// search by an id and by either spelling of a short id, 6981 of the last two, 6A82 of a search by
+    /// another byte, moves done.
     pub fn missing(&self, each: u64, done: u64) -> Vec<String> {
         let statuses = STATUSES
             .iter()
@@ -108,15 +109,16 @@ impl Tally {
             (format!("{name} 9000"), self.count(place, 0x9000), done)
         });
         let searches = [
+            (0, 0x9000, done),
             (1, 0x9000, done),
             (2, 0x9000, done),
             (1, 0x6981, each),
             (2, 0x6981, each),
             (3, 0x6A82, done),
         ]
-        .map(|(reference, status, wanted)| {
-            let what = format!("search by {}: {status:04X}", REFERENCES[reference]);
-            (what, self.searched(reference, status), wanted)
+        .map(|(way, status, wanted)| {
+            let what = format!("search by {}: {status:04X}", WAYS[way]);
+            (what, self.searched(way, status), wanted)
         });
         let moves = MOVE_REFUSALS.iter().map(|number| {
             let what = format!("refusal {number} of a move");
@@ -146,9 +148,9 @@ fn place(command: &[u8]) -> usize {
         .unwrap_or(OTHER)
 }
 
-/// How a SEARCH RECORD names its file, as a place in [`REFERENCES`]; none where it is not written as
+/// How a SEARCH RECORD names its file, as a place in [`WAYS`]; none where it is not written as
 /// a search is.
-fn search_reference(command: &[u8]) -> Option<usize> {
+fn search_way(command: &[u8]) -> Option<usize> {
     let (header, body) = command.split_at_checked(5)?;
     if place(header) != place(&[0x00, 0xA2]) {
         return None;
@@ -199,10 +201,10 @@ impl fmt::Display for Tally {
             write!(f, " {status:04X} |")?;
         }
         writeln!(f, "\n|---|---|---|---|---|---|---|")?;
-        for (reference, name) in REFERENCES.iter().enumerate() {
+        for (way, name) in WAYS.iter().enumerate() {
             write!(f, "| {name} |")?;
             for status in SEARCH_STATUSES {
-                write!(f, " {} |", self.searched(reference, status))?;
+                write!(f, " {} |", self.searched(way, status))?;
             }
             writeln!(f)?;
         }
