@@ -3,7 +3,8 @@
 
 The card is the card to try of docs/RULES.md, in a file. The input is demo/worked.apdu, then lines that cannot be read, rights in
 hexadecimal and in words, where the session stands, help, long lines, what the card holds, and moves. The answers to the commands are the
-ones that the source of the rules prints, and for the search by 08 the one of clause T1; the rights follow section B of the rules; the words are those of the tables below.
+ones that the source of the rules prints, and for the search by 08 the one of clause T1; the rights follow section B of the rules; the
+words are those of the tables below.
 
 The gate compares standard output alone. `run.py` beside this file compares standard error and the exit status, too.
 

@@ -18,8 +18,8 @@ ghost use Rattle.objects_templates.specs.declared.Query.the-variants.{Ask};
 ghost use Rattle.machine_reply_search.specs.Found.{kept};
 ghost use Rattle.machine_record.specs.SearchRecord.{searchShort, searchNamed, searchBy, searchRecord, searchHits, searchStatus};
 
-// The short id that a byte spells. ICAO's example sends the short id itself, ISO sends it in b8 to b4. No file has a short id that ends
-// in 000, so no byte means two files.
+// The short id that a byte spells. ICAO's example sends the short id itself, ISO sends it in b8 to b4. The low three bits of a file's short
+// id are never 000, so no byte means two files.
 fn search_short(b: usize) -> usize
     ensures { λ r. ⌜ r ≡ searchShort b ⌝ }
 {

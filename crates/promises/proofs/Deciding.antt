@@ -1,5 +1,5 @@
--- The bytes of a well-formed SEARCH RECORD come to what steps 7 to 9 answer of its reference (`search-reached`). A permitted one is decided as
--- a search of its fields (`search-decided-complete`), and whatever is decided as a search is such a command (`search-decided-sound`). Read before: ../specs/Promises.antt, section 3.
+-- The bytes of a well-formed SEARCH RECORD come to what steps 7 to 9 answer of its reference (`search-reached`, `reached-outcome`), which for a
+-- permitted one is its file (`searching-resolved`). Whatever is decided as a search is such a command (`search-decided-sound`). Read before: ../specs/Promises.antt, section 3.
 use Prim.Native.Nat.{ℕ, _≤_}
 use mathlib.Core.Path.{_≡_, refl, sym, ap, subst, _∙_}
 use mathlib.Core.Bool.{Bool, true, false}
@@ -143,16 +143,14 @@ search-reached img s cmd f x c =
       searches = w;
     }
 
-pub search-decided-complete : (img : List ℕ) (s : Session) (cmd buf : List ℕ) (f : Frame) (x : SearchFields) (r : Rule)
+-- and an accepted one has that outcome
+pub reached-outcome : (img : List ℕ) (s : Session) (cmd buf : List ℕ) (f : Frame) (x : SearchFields) (k : Reached img s cmd f x) (z : ResolvedRecord)
     → verdictOn img s (length buf) ≡ Accepted
-    → Searching s cmd f x r
-    → (q : Search) × (decide img s cmd ≡ SearchRecord r q (f .ne)) × Searches (dataOf cmd) q x
-search-decided-complete img s cmd buf f x r a h =
-    let k = search-reached img s cmd f x (h .command) in (
-      k .query,
-      k .decided ∙ ap (λ (y : ResolvedRecord). onRecord y (searchOn (k .query) (f .ne))) (searching-resolved img s cmd buf f x r a h),
-      k .searches,
-    )
+    → resolveRecord img s Read (searchNamed (x .file)) ≡ z
+    → step img s cmd buf ≡ done (onRecord z (searchOn (k .query) (f .ne))) img s (dataOf cmd) buf
+reached-outcome img s cmd buf f x k z a e =
+    step-accepted img s cmd buf a
+    ∙ ap (λ (y : Action). done y img s (dataOf cmd) buf) (k .decided ∙ ap (λ (y : ResolvedRecord). onRecord y (searchOn (k .query) (f .ne))) e)
 
 pub search-decided-sound : (img : List ℕ) (s : Session) (cmd : List ℕ) (r : Rule) (q : Search) (ne : ℕ)
     → AllBytes cmd

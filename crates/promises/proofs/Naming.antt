@@ -1,6 +1,6 @@
 -- What steps 7 to 9 answer is the file that the command means: the machine's look-ups find what ../specs/Files.antt says (`record-meant` and
--- its like), and a record file that is meant is found (`meant-resolved`). No short id ends in 000 (`spellings-apart`), so that a byte of a
--- search means one file only (`byte-means-one`). Read before: ../specs/Files.antt.
+-- its like), and a record file that is meant is found (`meant-resolved`). No short id has 000 in its low bits (`spellings-apart`), so that
+-- a byte of a search means one file only (`byte-means-one`). Read before: ../specs/Files.antt.
 use Prim.Native.Nat.{ℕ, _-_, _%_}
 use mathlib.Core.Path.{_≡_, refl, sym, ap, ap₂, subst, _∙_}
 use mathlib.Core.Bool.{Bool, true, false, _||_, or-false}
@@ -231,7 +231,7 @@ Listed (RecordFile r) = List·Memᴰ r rules
 Listed (TransparentFile t) = Unit {0}
 
 -- no short id of a file has 000 in its low bits
-spellings-apart : (f : File) → Listed f → (x : ℕ) → isShortOf f x ≡ true → x % 8 ≡ 0 → ⊥
+pub spellings-apart : (f : File) → Listed f → (x : ℕ) → isShortOf f x ≡ true → x % 8 ≡ 0 → ⊥
 unfolding isShortOf
 spellings-apart (RecordFile r) m x h z = let e = eqb-true (r .short) x h in let l = listed-regular r m .low-bits in omega (arith, ap (λ (k : ℕ). k % 8) e)
 spellings-apart (TransparentFile Info) m x h z = let e = eqb-true x 0x01 h in omega (arith, e, z)
@@ -301,27 +301,30 @@ module _ (s : Session) (r : Rule) (m : List·Memᴰ r rules) where
 -- ---- a byte of a search means one file only
 
 module _ (s : Session) (x : ℕ) where
-  abbrev Means-it : File → Type 0
-  Means-it f = isMeant s (Short x) f ≡ true
+  abbrev IsMeant : File → Type 0
+  IsMeant f = isMeant s (Short x) f ≡ true
 
-  -- a transparent file has a short id in the master file only, and a record file is in no master file
-  master : (t : Transparent) → Means-it (TransparentFile t) → s .application ≡ 0
+  same-rule : (q r : Rule) → List·Memᴰ q rules → List·Memᴰ r rules → IsMeant (RecordFile q) → IsMeant (RecordFile r) → Is q ≡ Is r
+  same-rule q r a b h k = sym (by-short s q a x h) ∙ by-short s r b x k
+
+  -- a transparent file has a short id in the master file only, and no record file is there
+  master : (t : Transparent) → IsMeant (TransparentFile t) → s .application ≡ 0
   unfolding isMeant applicationOfFile isShortOf
   master Info h = sym (eqb-true 0 (s .application) (allOf-facts _ h .0))
   master Dir h = sym (eqb-true 0 (s .application) (allOf-facts _ h .0))
   master (Biometrics n) h = false-true (allOf-facts _ h .1 .0)
 
-  not-master : {A : Type 0} (r : Rule) → List·Memᴰ r rules → Means-it (RecordFile r) → s .application ≡ 0 → A
+  not-master : {A : Type 0} (r : Rule) → List·Memᴰ r rules → IsMeant (RecordFile r) → s .application ≡ 0 → A
   not-master r m h z = let l = listed-regular r m .first in absurd (omega (arith, home s r m (Short x) h))
 
-  found-master : (t : Transparent) → Means-it (TransparentFile t) → masterBy 0x01 0x1E x ≡ Known (TransparentFile t)
+  found-master : (t : Transparent) → IsMeant (TransparentFile t) → masterBy 0x01 0x1E x ≡ Known (TransparentFile t)
   unfolding masterBy isMeant isShortOf
   found-master Info h = ap (masterBy 0x01 0x1E) (eqb-true x 0x01 (allOf-facts _ h .1 .0))
   found-master Dir h = ap (masterBy 0x01 0x1E) (eqb-true x 0x1E (allOf-facts _ h .1 .0))
   found-master (Biometrics n) h = false-true (allOf-facts _ h .1 .0)
 
-  one-short : (f g : File) → Listed f → Listed g → Means-it f → Means-it g → f ≡ g
-  one-short (RecordFile q) (RecordFile r) a b h k = let e = sym (by-short s q a x h) ∙ by-short s r b x k in cc
+  one-short : (f g : File) → Listed f → Listed g → IsMeant f → IsMeant g → f ≡ g
+  one-short (RecordFile q) (RecordFile r) a b h k = let e = same-rule q r a b h k in cc
   one-short (RecordFile q) (TransparentFile t) a b h k = not-master q a h (master t k)
   one-short (TransparentFile t) (RecordFile r) a b h k = not-master r b k (master t h)
   one-short (TransparentFile t) (TransparentFile u) a b h k = let e = sym (found-master t h) ∙ found-master u k in cc
@@ -343,7 +346,7 @@ one-meant s x q r a b =
     by-cases (eqb x 0)
     (λ e. simp e (λ g h. let i = one-current (s .place) (q .id) (r .id) (goes s q a Current g) (goes s r b Current h) in
     sym (by-id s q a (q .id) (home s q a Current g) refl) ∙ ap (λ (y : ℕ). ruleOf (ById (s .application) y)) i ∙ by-id s r b (r .id) (home s r b Current h) refl))
-    (λ e. simp e (λ g h. sym (by-short s q a x g) ∙ by-short s r b x h))
+    (λ e. simp e (same-rule s x q r a b))
 
 pub kind-meant : (s : Session) (x : ℕ) (r : Rule) → List·Memᴰ r rules → isMeantByP2 s x (RecordFile r) ≡ true → (k : ℕ) → isMeantKind s x k ≡ eqb (r .kind) k
 unfolding isMeantKind

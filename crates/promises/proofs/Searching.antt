@@ -26,11 +26,11 @@ use Rattle.machine_session.specs.Session.{placed}
 use Rattle.machine_session.specs.declared.Session.{Session}
 use Rattle.machine_session.specs.declared.Place.the-variants.{OnRecord}
 use Rattle.machine_session.specs.declared.Access.the-variants.{Read}
+use Rattle.machine_session.specs.declared.ResolvedRecord.the-variants.{RecordAt}
 use Rattle.machine_session.proofs.Steps.{RecordResolved, RecordOk, resolveRecord-wellFormed}
 use Rattle.machine_record.specs.SearchRecord.{fileIn, searchNamed, searchHits, searchReply}
 use Rattle.machine_record.proofs.Searched.{searchStatus-none, searchStatus-over, searchStatus-found}
 use Rattle.machine_dispatch.specs.Decide.{dataOf}
-use Rattle.machine_action.specs.declared.Action.{Action}
 use Rattle.machine_reply_search.specs.Found.{matching, hits, foundData, reply}
 use Rattle.machine_reply_search.proofs.Listing.{reply-whole}
 use Rattle.machine_reply_search.proofs.Matching.{Up, matching-sound, matching-complete, matching-ascends, first-match, none-hits, hits-none}
@@ -41,8 +41,8 @@ use Rattle.machine.proofs.Seeking.{reply-short, searched-refused, searched-foun
 use Rattle.promises.specs.Calls.{after, history}
 use Rattle.promises.specs.Matches.{Stands, Matches}
 use Rattle.promises.specs.Promises.{dataIn, Ascending, Names, Leaves-none-out}
-use Rattle.promises.proofs.Answering.{data-said, step-accepted, taken-accepted, accepted-room}
-use Rattle.promises.proofs.Deciding.{searching-resolved, search-decided-complete}
+use Rattle.promises.proofs.Answering.{data-said, taken-accepted, accepted-room}
+use Rattle.promises.proofs.Deciding.{searching-resolved, search-reached, reached-outcome}
 use Rattle.promises.proofs.Growing.{calls-held}
 use Rattle.promises.proofs.Reading.{stored-records}
 
@@ -257,12 +257,12 @@ leaves-none-out img calls s cmd buf f x r o t z =
     let now = after img calls in
     let h = calls-held img calls o in
     let a = taken-accepted now s cmd buf t in
-    let c = search-decided-complete now s cmd buf f x r a z in
-    let q = c .0 in
-    let g : RecordResolved now s Read r = subst (RecordOk now s Read) (searching-resolved now s cmd buf f x r a z) (resolveRecord-wellFormed now s Read (searchNamed (x .file))) in
-    let u : step now s cmd buf ≡ searched now s (dataOf cmd) buf r q (f .ne) =
-    step-accepted now s cmd buf a ∙ ap (λ (y : Action). done y now s (dataOf cmd) buf) (c .1) ∙ (unfold done in refl) in
+    let c = search-reached now s cmd f x (z .command) in
+    let q = c .query in
+    let i = searching-resolved now s cmd buf f x r a z in
+    let g : RecordResolved now s Read r = subst (RecordOk now s Read) i (resolveRecord-wellFormed now s Read (searchNamed (x .file))) in
+    let u : step now s cmd buf ≡ searched now s (dataOf cmd) buf r q (f .ne) = reached-outcome now s cmd buf f x c (RecordAt r) a i ∙ (unfold done in refl) in
     let e : recordsOf now (r .kind) ≡ history (r .kind) img calls = h .records (r .kind) (stored-records now r (g .file .ok)) in
     subst (Names (history (r .kind) img calls) x (f .ne)) (sym u)
     (subst (λ (rs : List (List ℕ)). Names rs x (f .ne) (searched now s (dataOf cmd) buf r q (f .ne))) e
-    (names-here now s (dataOf cmd) buf r q (f .ne) x (c .2) (h .well) (accepted-room now s buf a) (g .file .ok)))
+    (names-here now s (dataOf cmd) buf r q (f .ne) x (c .searches) (h .well) (accepted-room now s buf a) (g .file .ok)))

@@ -27,7 +27,6 @@ use Rattle.machine_session.proofs.Steps.{RecordResolved, RecordOk, resolveRecor
 use Rattle.machine_apdu.specs.Status.{normal, noMatch, wrongLength}
 use Rattle.machine_apdu.specs.declared.Frame.{Frame}
 use Rattle.machine_action.specs.Tests.{onRecord}
-use Rattle.machine_action.specs.declared.Action.{Action}
 use Rattle.machine_record.specs.SearchRecord.{searchNamed, searchOn, searchStatus}
 use Rattle.machine_record.proofs.Spelling.{searchNamed-alike}
 use Rattle.machine_dispatch.specs.Decide.{dataOf}
@@ -38,8 +37,8 @@ use Rattle.machine.specs.Effects.{searched, done}
 use Rattle.machine.specs.Step.{verdictOn, stepBy, step}
 use Rattle.machine.proofs.Seeking.{reply-short}
 use Rattle.promises.specs.Promises.{SearchCommand, withFile, Alike, Both-spellings}
-use Rattle.promises.proofs.Answering.{data-said, behind-said, step-accepted, accepted-room, accepted-facts}
-use Rattle.promises.proofs.Deciding.{Reached, search-reached}
+use Rattle.promises.proofs.Answering.{data-said, behind-said, accepted-room, accepted-facts}
+use Rattle.promises.proofs.Deciding.{Reached, search-reached, reached-outcome}
 use Rattle.promises.proofs.Searching.{numbers, hits-are, reply-is, file-short}
 
 -- ---- outcomes that are alike
@@ -128,10 +127,7 @@ module _ (img : List ℕ) (s : Session) (buf : List ℕ) (f : Frame) (x : Search
 
       comes-to : (z : ResolvedRecord) → resolved ≡ z → step img s cmd buf ≡ answers z b
       unfolding done
-      comes-to z e =
-          step-accepted img s cmd buf a
-          ∙ ap (λ (y : Action). done y img s (dataOf cmd) buf) (asked .decided ∙ ap (λ (y : ResolvedRecord). onRecord y (searchOn (asked .query) (f .ne))) e)
-          ∙ acts z e
+      comes-to z e = reached-outcome img s cmd buf f (withFile x (b ∷ [])) asked z a e ∙ acts z e
         where
           acts : (z : ResolvedRecord) → resolved ≡ z → done (onRecord z (searchOn (asked .query) (f .ne))) img s (dataOf cmd) buf ≡ answers z b
           acts (RecordStop k) e = refl
