@@ -13,12 +13,14 @@
  *   - no pointer is null, even where the length is 0.
  * Beyond that every function takes any bytes and any lengths, and always returns.
  *
- * Results. A result is one number of 64 bits. Its upper 32 bits are the refusal, 0 where the call is not refused:
+ * Results. A result is one number of 64 bits. Its upper 32 bits are the refusal, 0 where the call is not refused.
+ * (malquindo_file is the exception: it refuses nothing, and answers 0 where there is no such file.)
  *    1  command        the response buffer is shorter than MALQUINDO_RESPONSE_LEN
  *    2  command, move  the image is not well formed
  *    3  open           the rights are not MALQUINDO_RIGHTS_LEN bytes
  *    4  open           the session buffer is shorter than MALQUINDO_SESSION_LEN
  *       command        it is shorter, its bytes are no session, or the session does not fit the image
+ *    9  certificate    the card's body or the desk's body is no well-formed body of travel certificates
  *   10  move           the list lays out no valid image
  *   11  move           a kind of the old image is not in the list
  *   12  move           a room is too small for its content
@@ -89,9 +91,34 @@ uint64_t malquindo_command(uint8_t *image, size_t image_len, uint8_t *session, s
 uint64_t malquindo_move(const uint8_t *old, size_t old_len, const uint8_t *list, size_t list_len,
                         uint8_t *target, size_t target_len);
 
+/* Where the body of a file stands in a card image: place * 2^32 + length, both counted in bytes. The image is only read.
+ *
+ * The kind is that of the section: 0x0101 EntryRecords, 0x0102 ExitRecords, 0x011A travel certificates, 0x0203 VisaRecords,
+ * 0x021A visa certificates, 0x031A biometrics certificates, 0x0400 + n Biometrics n. The result is 0 where the image has no
+ * such file or is not well formed. The place of a file that is there is 6 or more, so its result is never 0.
+ *
+ * The place stays good as long as only malquindo_command writes the image: a command changes bytes of a body, and moves none. */
+uint64_t malquindo_file(const uint8_t *image, size_t image_len, uint16_t kind);
+
+/* The certificate that a stamp names: the record of travel certificates whose number is the stamp's reference byte.
+ *
+ * The card is the body of the file 0x011A of a card image, where malquindo_file says that it stands. The desk is a body of
+ * the same form that the caller keeps; one with no certificate is two zero bytes. Both are only read. Where the card's body has
+ * a record of this number, the certificate is that record; else the one of the desk's body, where that has it; else it is
+ * missing. References 0x00 and 0xFF are always missing.
+ *
+ * The lower 32 bits of the result are which * 2^28 + place * 2^10 + length. Which is 1 for the card's body, 2 for the desk's,
+ * 0 where the certificate is missing. The certificate is the bytes of that body from the place on, as many as the length
+ * says. Where it is missing, all of the result is 0.
+ *
+ * Refusal 9, before all: one of the two bodies is not well formed. It has fewer than 2 bytes, more than 254 records, or a
+ * record of no byte, of more than 929 bytes, or past the body's end. Neither body has a length of its own to keep to: bytes
+ * behind the last record are free. */
+uint64_t malquindo_certificate(const uint8_t *card, size_t card_len, const uint8_t *desk, size_t desk_len, uint8_t reference);
+
 /* The parts of a result. */
 
-/* Of every function: the refusal, 0 for none. */
+/* Of every function but malquindo_file: the refusal, 0 for none. */
 static inline unsigned malquindo_refusal(uint64_t result) { return (unsigned)(result >> 32); }
 /* Of a command: the length of the answer. */
 static inline size_t malquindo_length(uint64_t result) { return (size_t)(result >> 16 & 0xFFFF); }
@@ -99,6 +126,21 @@ static inline size_t malquindo_length(uint64_t result) { return (size_t)(result 
 static inline unsigned malquindo_status(uint64_t result) { return (unsigned)(result & 0xFFFF); }
 /* Of a move: the length of the new image. */
 static inline size_t malquindo_moved(uint64_t result) { return (size_t)(result & 0xFFFFFFFF); }
+/* Of a file: where its body begins in the image. */
+static inline size_t malquindo_file_place(uint64_t result) { return (size_t)(result >> 32); }
+/* Of a file: the length of its body. */
+static inline size_t malquindo_file_length(uint64_t result) { return (size_t)(result & 0xFFFFFFFF); }
+
+/* Which body has a certificate. */
+#define MALQUINDO_CERTIFICATE_MISSING 0
+#define MALQUINDO_CERTIFICATE_CARD 1
+#define MALQUINDO_CERTIFICATE_DESK 2
+/* Of a certificate: which body has it, one of the three above. */
+static inline unsigned malquindo_certificate_which(uint64_t result) { return (unsigned)(result >> 28 & 0xF); }
+/* Of a certificate: where its first byte stands in that body. */
+static inline size_t malquindo_certificate_place(uint64_t result) { return (size_t)(result >> 10 & 0x3FFFF); }
+/* Of a certificate: its length. */
+static inline size_t malquindo_certificate_length(uint64_t result) { return (size_t)(result & 0x3FF); }
 
 #ifdef __cplusplus
 }

@@ -2,9 +2,9 @@
 """Makes what the program `program_terminal` is run on, and what it must write: crates/program_terminal/stdin, stdout, args and data/.
 
 The card is the card to try of docs/RULES.md, in a file. The input is demo/worked.apdu, then lines that cannot be read, rights in
-hexadecimal and in words, where the session stands, help, long lines, what the card holds, and moves. The answers to the commands are the
-ones that the source of the rules prints, and for the search by 08 the one of clause T1; the rights follow section B of the rules; the
-words are those of the tables below.
+hexadecimal and in words, where the session stands, help, long lines, what the card holds, moves, and certificates by their references. The
+answers to the commands are the ones that the source of the rules prints, and for the search by 08 the one of clause T1; the rights follow
+section B of the rules, the certificates section P; the words are those of the tables below.
 
 The gate compares standard output alone. `run.py` beside this file compares standard error and the exit status, too.
 
@@ -36,6 +36,7 @@ CANNOT = "! this line cannot be read, and nothing is changed: "
 TOO_LONG = "! this line is longer than 65,536 bytes, and nothing is changed"
 OPENED = "= session opened"
 MOVED = "= moved to a new file"
+NO_CERTIFICATES = "! refused (9): there is no well-formed body of travel certificates on the card or in the copy"
 
 # the longest line that is read, and more input than the room for an image has
 LINE = 65536
@@ -51,6 +52,8 @@ Each line is answered. Spaces may stand anywhere in hexadecimal; # starts a comm
   rights                      says what the session may do
   session                     says the session's application, file and record
   show                        lists what the card holds
+  certificate 07              shows the certificate that a stamp names by 07
+  certificate 07 other.card   looks for it on the card, and then in the card image of a file
   move new.card 0101 100 0102 50 011A 40
                               writes the card with other rooms into a new file
   help                        writes this
@@ -70,6 +73,27 @@ def section(kind, body):
 
 def to_try():
     return b"".join(section(kind, bytes(40)) for kind in (0x0101, 0x0102, 0x011A))
+
+
+def record_body(records):
+    return len(records).to_bytes(2, "little") + b"".join(len(r).to_bytes(2, "little") + r for r in records)
+
+
+def certificates_card(*records):
+    """A card with these travel certificates, for a desk to keep; five free bytes behind them."""
+    bodies = (bytes(2), bytes(2), record_body(records) + b"\xEE" * 5)
+    return b"".join(section(kind, body) for kind, body in zip((0x0101, 0x0102, 0x011A), bodies))
+
+
+# what lies beside the card: a desk's copy with two certificates, one with as many as there may be, one record too many, a card without
+# the travel application
+FILES = {
+    "try.card": to_try(),
+    "desk.card": certificates_card(b"\xD1", b"\xD2\xD2"),
+    "full.card": certificates_card(*(bytes([n]) for n in range(1, 255))),
+    "many.card": certificates_card(*(bytes([n]) for n in range(1, 256))),
+    "visa.only": section(0x0203, bytes(2)) + section(0x021A, bytes(2)),
+}
 
 
 def spaced(text):
@@ -240,6 +264,32 @@ def moves(c):
     c.says("show", *shown_moved((40, 40, 40)))
 
 
+def certificates(c):
+    """The certificate that a reference names: on the card, in the copy, in neither; what cannot be asked."""
+    missing = " is missing: it is not on the card"
+    neither = " is missing: it is neither on the card nor in "
+    for reference in ("00", "01", "FF"):
+        c.says("certificate " + reference, f"= certificate {reference}{missing}")
+    c.says("certificate 01 desk.card", "= certificate 01 is in desk.card: D1")
+    c.command("00E200D003C0C1C2", "9000")
+    # now the card has number 1, and the desk's copy of it does not count
+    c.says("certificate 01", "= certificate 01 is on the card: C0 C1 C2")
+    c.says(" certificate\t1  desk.card # a comment", "= certificate 01 is on the card: C0 C1 C2")
+    c.says("certificate 02 desk.card", "= certificate 02 is in desk.card: D2 D2")
+    c.says("certificate 02", "= certificate 02" + missing)
+    for reference in ("00", "03", "FF"):
+        c.says(f"certificate {reference} desk.card", f"= certificate {reference}{neither}desk.card")
+    c.says("certificate fe full.card", "= certificate FE is in full.card: FE")
+    c.says("certificate FF full.card", f"= certificate FF{neither}full.card")
+    c.says("certificate 01 try.card", "= certificate 01 is on the card: C0 C1 C2")
+    for reference in ("01", "02", "FF"):
+        c.says(f"certificate {reference} many.card", "! the file is no well-formed card image, and nothing is changed: many.card")
+        c.says(f"certificate {reference} visa.only", NO_CERTIFICATES)
+    c.says("certificate 01 none.card", "! the card's file cannot be used: none.card: No such file or directory")
+    for line in ("certificate", "certificate 100", "certificate -1", "certificate zz", "certificate 01 desk.card 02", "certificates 01"):
+        c.cannot(line)
+
+
 def shown_moved(rooms, visa=()):
     """The card behind `rights`, which appended the byte 77 to ExitRecords."""
     lines = shown(*RECORDS, rooms=rooms, visa=visa)
@@ -256,6 +306,7 @@ def cases():
     c.says("help", *HELP)
     long_input(c)
     moves(c)
+    certificates(c)
     # a last line that does not end
     c.command("00B2030C000000", RECORDS[2] + "9000")
     return c
@@ -267,8 +318,9 @@ def main():
     for name, text in (("stdin", "\n".join(c.stdin)), ("stdout", "\n".join(c.stdout) + "\n"), ("args", "try.card\n")):
         with open(os.path.join(CRATE, name), "w") as f:
             f.write(text)
-    with open(os.path.join(CRATE, "data", "try.card"), "wb") as f:
-        f.write(to_try())
+    for name, content in FILES.items():
+        with open(os.path.join(CRATE, "data", name), "wb") as f:
+            f.write(content)
 
 
 if __name__ == "__main__":

@@ -107,13 +107,17 @@ def update(n, offset, content):
 def test_gate_cases(folder):
     """The input of the gate, with what goes to standard error, and status 1, since some of its lines cannot be read."""
     c = cases.cases()
-    write(folder, "try.card", to_try())
+    for name, content in cases.FILES.items():
+        write(folder, name, content)
     status, stdout, stderr = run(folder, "\n".join(c.stdin).encode(), "try.card")
     assert stdout == "\n".join(c.stdout) + "\n"
     assert stderr == "\n".join(c.stderr) + "\n", stderr
     assert status == 1
     kept = bodies(read(folder, "try.card"))
     assert [r.hex().upper() for r in records(kept[0x0101])] == cases.RECORDS and records(kept[0x0102]) == [b"\x77"]
+    assert records(kept[0x011A]) == [b"\xC0\xC1\xC2"]
+    for name in cases.FILES.keys() - {"try.card"}:
+        assert read(folder, name) == cases.FILES[name]          # a copy is only read
     assert len(read(folder, "larger.card")) == 208 and records(bodies(read(folder, "larger.card"))[0x0101]) == records(kept[0x0101])
     assert not os.path.exists(os.path.join(folder, "other.card"))
 

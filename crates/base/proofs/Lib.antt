@@ -2,4 +2,5 @@
 pub mod Cases
 pub mod Runs
 pub mod Parts
+pub mod Lending
 pub mod Determined

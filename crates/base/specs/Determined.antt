@@ -8,7 +8,7 @@ use mathlib.Core.List.{List}
 use Prim.Native.Nat.{ℕ}
 use mir.Syntax.{w8}
 use contract.Lifetimes.{Lfts}
-use denote.Ref.{now}
+use denote.Ref.{ptr, now}
 use denote.Triple.Clauses.{Lasts, atExit}
 use borrow.Fn.Kinds.{PK, RK, Out, Dens, resT, endedOf}
 use borrow.Kind.ShrSlice.{rShrS}
@@ -38,3 +38,11 @@ Determined-part ps Post =
     → Fulfils ps PartLent Post κs a e
     → Fulfils ps PartLent Post κs a f
     → (now (e .0) ≡ now (f .0)) × (e .1 ≡ f .1)
+
+-- where the contract tells where it stands in memory, too, both are equal [C1]
+abbrev pub Determined-address : (ps : List (PK 1)) → Out 1 ps PartLent → Type 0
+Determined-address ps Post =
+    (κs : Lfts 1) (a : Dens κs ps) (e f : Ending ps PartLent κs a)
+    → Fulfils ps PartLent Post κs a e
+    → Fulfils ps PartLent Post κs a f
+    → (now (e .0) ≡ now (f .0)) × (ptr (e .0) ≡ ptr (f .0)) × (e .1 ≡ f .1)

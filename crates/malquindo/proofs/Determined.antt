@@ -9,6 +9,10 @@ use Rattle.malquindo.proofs.malquindo_command.Kinds as malquindo-comman
 use Rattle.malquindo.proofs.malquindo_command.Reads as malquindo-command-reads
 use Rattle.malquindo.proofs.malquindo_move.Kinds as malquindo-move-kinds
 use Rattle.malquindo.proofs.malquindo_move.Reads as malquindo-move-reads
+use Rattle.malquindo.proofs.malquindo_file.Kinds as malquindo-file-kinds
+use Rattle.malquindo.proofs.malquindo_file.Reads as malquindo-file-reads
+use Rattle.malquindo.proofs.malquindo_certificate.Kinds as malquindo-certificate-kinds
+use Rattle.malquindo.proofs.malquindo_certificate.Reads as malquindo-certificate-reads
 
 pub malquindo-session-len-determined : Determined malquindo-session-len-kinds.ps malquindo-session-len-kinds.r malquindo-session-len-reads.Post
 malquindo-session-len-determined κs a e f p q i = ((p ∙ sym q) i, e .1)
@@ -21,3 +25,9 @@ malquindo-command-determined κs a e f p q = ap (λ o. (o .result, (o .image, (o
 
 pub malquindo-move-determined : Determined malquindo-move-kinds.ps malquindo-move-kinds.r malquindo-move-reads.Post
 malquindo-move-determined κs a e f p q i = ((p .0 ∙ sym (q .0)) i, (tt, (tt, ((p .1 ∙ sym (q .1)) i, tt))))
+
+pub malquindo-file-determined : Determined malquindo-file-kinds.ps malquindo-file-kinds.r malquindo-file-reads.Post
+malquindo-file-determined κs a e f p q i = ((p ∙ sym q) i, e .1)
+
+pub malquindo-certificate-determined : Determined malquindo-certificate-kinds.ps malquindo-certificate-kinds.r malquindo-certificate-reads.Post
+malquindo-certificate-determined κs a e f p q i = ((p ∙ sym q) i, e .1)

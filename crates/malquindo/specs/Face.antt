@@ -15,6 +15,11 @@ use Rattle.machine_session.specs.declared.Verdict.the-variants.{Accepted, Refus
 use Rattle.machine_answer.specs.Outcome.{Outcome}
 use Rattle.machine.specs.Step.{opening, step}
 use Rattle.machine_session_bytes.specs.Layout.{sessionBytes, isSession, sessionIn}
+use Rattle.store_image.specs.Image.{find, wellFormed}
+use Rattle.store_image.specs.declared.Found.{Found}
+use Rattle.store_image.specs.declared.Found.the-variants.{At, Missing}
+use Rattle.store_certificates.specs.Certificates.{certificateRefusal, whichBody, certificateStretch}
+use Rattle.store_certificates.specs.declared.Located.{Located}
 use Rattle.store_move.specs.Moving.{moveRefusalNumber}
 use Rattle.store_move.specs.declared.Moved.{Moved}
 use Rattle.store_move.specs.declared.Moved.the-variants.{Image, Refused as MoveRefused}
@@ -68,3 +73,17 @@ called img ses cmd buf = ifElse (isSession ses) (calledBy ses (step img (session
 abbrev pub moveResult : Moved → ℕ
 moveResult (Image n) = n
 moveResult (MoveRefused w) = moveRefusalNumber w * 4294967296
+
+-- of a file: the place of its body · 2^32 + the body's length, both below 2^32; 0 where it is not there [X11]
+abbrev pub foundResult : Found → ℕ
+foundResult (At start n) = start % 4294967296 * 4294967296 + n % 4294967296
+foundResult Missing = 0
+
+-- 0 where the image is not well formed, too [X11]
+unfoldable pub fileResult : List ℕ → ℕ → ℕ
+fileResult img k = ifElse (wellFormed img) (foundResult (find img k)) 0
+
+-- of a certificate: refusal · 2^32 + which body · 2^28 + place · 2^10 + length; the place is below 2^18 and the length below 2^10 [X12]
+unfoldable pub certificateResult : Located → ℕ
+certificateResult l =
+    certificateRefusal l * 4294967296 + whichBody l * 268435456 + certificateStretch l .start % 262144 * 1024 + certificateStretch l .length % 1024

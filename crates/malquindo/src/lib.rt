@@ -4,14 +4,18 @@ use machine_apdu::status::NORMAL;
 use machine_session::Refusal;
 use machine_session::Session;
 use machine_session::Verdict;
+use store_certificates::Located;
+use store_certificates::Stretch;
+use store_image::Found;
 use store_move::MoveRefusal;
 use store_move::Moved;
 ghost use mathlib.Core.Path.{_≡_};
 ghost use Prim.Native.Nat.{_≤_};
 ghost use Rattle.machine_session.specs.Verdict.{refusalNumber, verdictNumber};
 ghost use lib.ListN.{length};
+ghost use Rattle.store_certificates.specs.Certificates.{located, certificateRefusal, whichBody, certificateStretch};
 ghost use Rattle.store_move.specs.Moving.{moveRefusalNumber, moveCard, moveCardInto};
-ghost use Rattle.malquindo.specs.Face.{moveResult, resultOf, openingVerdict, openResult, openSession, sessionAfter, calledAs, called};
+ghost use Rattle.malquindo.specs.Face.{moveResult, resultOf, openingVerdict, openResult, openSession, sessionAfter, calledAs, called, foundResult, fileResult, certificateResult};
 
 fn refusal_number(r: Refusal) -> u64
     ensures { λ n. ⌜ (n ≡ refusalNumber r) × (n ≤ 4) ⌝ }
@@ -140,4 +144,85 @@ pub extern "C" fn malquindo_move(old: &[u8], list: &[u8], target: &mut [u8]) -> 
 {
     let m = store_move::move_card(old, list, target);
     move_result(m)
+}
+
+// Where a section's body begins, and its length, in one.
+fn found_result(f: Found) -> u64
+    ensures { λ r. ⌜ r ≡ foundResult f ⌝ }
+{
+    match f {
+        Found::At(start, n) => (start % 4294967296) as u64 * 4294967296 + (n % 4294967296) as u64,
+        Found::Missing => 0,
+    }
+}
+
+// Where the body of a file stands in a card image.
+#[no_mangle]
+pub extern "C" fn malquindo_file(image: &[u8], kind: u16) -> u64
+    ensures { λ r. ⌜ r ≡ fileResult (now (image .entry)) kind ⌝ }
+{
+    if !store_image::well_formed(image) {
+        return 0;
+    }
+    found_result(store_image::find(image, kind as usize))
+}
+
+// The number of a certificate's refusal, 0 where there is none.
+fn certificate_refusal(l: Located) -> u64
+    ensures { λ n. ⌜ (n ≡ certificateRefusal l) × (n ≤ 9) ⌝ }
+{
+    match l {
+        Located::Card(_) => 0,
+        Located::Desk(_) => 0,
+        Located::Missing => 0,
+        Located::Refused => 9,
+    }
+}
+
+// The number of the body that has the certificate, 0 where none has.
+fn which_body(l: Located) -> u64
+    ensures { λ n. ⌜ (n ≡ whichBody l) × (n ≤ 2) ⌝ }
+{
+    match l {
+        Located::Card(_) => 1,
+        Located::Desk(_) => 2,
+        Located::Missing => 0,
+        Located::Refused => 0,
+    }
+}
+
+fn certificate_stretch(l: Located) -> Stretch
+    ensures { λ r. ⌜ r ≡ certificateStretch l ⌝ }
+{
+    match l {
+        Located::Card(s) => s,
+        Located::Desk(s) => s,
+        Located::Missing => Stretch {
+            start: 0,
+            length: 0,
+        },
+        Located::Refused => Stretch {
+            start: 0,
+            length: 0,
+        },
+    }
+}
+
+// The four numbers of an answer in one.
+fn certificate_result(l: Located) -> u64
+    ensures { λ r. ⌜ r ≡ certificateResult l ⌝ }
+{
+    let s = certificate_stretch(l);
+    certificate_refusal(l) * 4294967296
+        + which_body(l) * 268435456
+        + (s.start % 262144) as u64 * 1024
+        + (s.length % 1024) as u64
+}
+
+// Where the certificate stands that a stamp's reference names: in the card's body, or in the desk's.
+#[no_mangle]
+pub extern "C" fn malquindo_certificate(card: &[u8], desk: &[u8], reference: u8) -> u64
+    ensures { λ r. ⌜ r ≡ certificateResult (located (now (card .entry)) (now (desk .entry)) reference) ⌝ }
+{
+    certificate_result(store_certificates::locate(card, desk, reference))
 }

@@ -13,6 +13,16 @@ use Rattle.program_console.proofs.result.length.Kinds as length-kinds
 use Rattle.program_console.proofs.result.length.Reads as length-reads
 use Rattle.program_console.proofs.result.moved_length.Kinds as moved-length-kinds
 use Rattle.program_console.proofs.result.moved_length.Reads as moved-length-reads
+use Rattle.program_console.proofs.result.file_place.Kinds as file-place-kinds
+use Rattle.program_console.proofs.result.file_place.Reads as file-place-reads
+use Rattle.program_console.proofs.result.file_length.Kinds as file-length-kinds
+use Rattle.program_console.proofs.result.file_length.Reads as file-length-reads
+use Rattle.program_console.proofs.result.certificate_which.Kinds as certificate-which-kinds
+use Rattle.program_console.proofs.result.certificate_which.Reads as certificate-which-reads
+use Rattle.program_console.proofs.result.certificate_place.Kinds as certificate-place-kinds
+use Rattle.program_console.proofs.result.certificate_place.Reads as certificate-place-reads
+use Rattle.program_console.proofs.result.certificate_length.Kinds as certificate-length-kinds
+use Rattle.program_console.proofs.result.certificate_length.Reads as certificate-length-reads
 
 pub room-determined : Determined room-kinds.ps room-kinds.r room-reads.Post
 room-determined κs a e f p q i = ((p ∙ sym q) i, e .1)
@@ -31,3 +41,18 @@ length-determined κs a e f p q i = ((p ∙ sym q) i, e .1)
 
 pub moved-length-determined : Determined moved-length-kinds.ps moved-length-kinds.r moved-length-reads.Post
 moved-length-determined κs a e f p q i = ((p ∙ sym q) i, e .1)
+
+pub file-place-determined : Determined file-place-kinds.ps file-place-kinds.r file-place-reads.Post
+file-place-determined κs a e f p q i = ((p ∙ sym q) i, e .1)
+
+pub file-length-determined : Determined file-length-kinds.ps file-length-kinds.r file-length-reads.Post
+file-length-determined κs a e f p q i = ((p ∙ sym q) i, e .1)
+
+pub certificate-which-determined : Determined certificate-which-kinds.ps certificate-which-kinds.r certificate-which-reads.Post
+certificate-which-determined κs a e f p q i = ((p ∙ sym q) i, e .1)
+
+pub certificate-place-determined : Determined certificate-place-kinds.ps certificate-place-kinds.r certificate-place-reads.Post
+certificate-place-determined κs a e f p q i = ((p ∙ sym q) i, e .1)
+
+pub certificate-length-determined : Determined certificate-length-kinds.ps certificate-length-kinds.r certificate-length-reads.Post
+certificate-length-determined κs a e f p q i = ((p ∙ sym q) i, e .1)

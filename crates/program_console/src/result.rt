@@ -1,5 +1,6 @@
-// The results of the functions for C: from the low end 16 bits of status and 16 of length, or 32 of a moved card's length, and then the
-// number of the refusal.
+// The results of the functions for C, taken apart: from the low end 16 bits of status and 16 of length, or 32 of a moved card's length, or 10 of
+// a certificate's length, 18 of its place and 4 that say whose it is; and then the number of the refusal. The result of a file has 32 bits
+// of length, and its place.
 ghost use mathlib.Core.Path.{_≡_};
 ghost use Prim.Native.Nat.{_/_, _%_};
 
@@ -29,4 +30,39 @@ pub fn moved_length(result: u64) -> usize
     ensures { λ r. ⌜ r ≡ result % 4294967296 ⌝ }
 {
     (result % 4294967296) as usize
+}
+
+// Where the body of a file stands.
+pub fn file_place(result: u64) -> usize
+    ensures { λ r. ⌜ r ≡ result / 4294967296 ⌝ }
+{
+    (result / 4294967296) as usize
+}
+
+// How long that body is.
+pub fn file_length(result: u64) -> usize
+    ensures { λ r. ⌜ r ≡ result % 4294967296 ⌝ }
+{
+    (result % 4294967296) as usize
+}
+
+// Which body has a certificate: 1 the card's, 2 the desk's, 0 neither.
+pub fn certificate_which(result: u64) -> u64
+    ensures { λ r. ⌜ r ≡ result / 268435456 % 16 ⌝ }
+{
+    result / 268435456 % 16
+}
+
+// Where the certificate stands in that body.
+pub fn certificate_place(result: u64) -> usize
+    ensures { λ r. ⌜ r ≡ result / 1024 % 262144 ⌝ }
+{
+    (result / 1024 % 262144) as usize
+}
+
+// How long it is.
+pub fn certificate_length(result: u64) -> usize
+    ensures { λ r. ⌜ r ≡ result % 1024 ⌝ }
+{
+    (result % 1024) as usize
 }

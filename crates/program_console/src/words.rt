@@ -39,6 +39,9 @@ fn reason(number: u64) {
         2 => warn(b"! refused (2): the card image is not well formed"),
         3 => warn(b"! refused (3): rights are 60 bytes, three certificates of 20"),
         4 => warn(b"! refused (4): the session does not fit the card"),
+        9 => warn(
+            b"! refused (9): there is no well-formed body of travel certificates on the card or in the copy",
+        ),
         10 => warn(b"! refused (10): these rooms make no well-formed card"),
         11 => warn(b"! refused (11): a file of the card has no room"),
         12 => warn(b"! refused (12): a room is too small for its file"),

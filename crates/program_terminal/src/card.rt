@@ -77,3 +77,14 @@ pub(crate) fn load(name: &[u8], out: &mut [u8]) -> Loaded {
     }
     read(fd, name, out)
 }
+
+// The card image of a file that is only read. Answers its length, or FAILED where there is none.
+pub(crate) fn copy(name: &[u8], out: &mut [u8]) -> usize {
+    let fd = os::open_read(name);
+    if fd < 0 {
+        return unusable(name).len;
+    }
+    let c = read(fd, name, out);
+    libc::close(fd);
+    c.len
+}

@@ -30,6 +30,12 @@ pub(crate) fn all() {
         b"  session                     says the session's application, file and record\n",
     );
     program_console::word(b"  show                        lists what the card holds\n");
+    program_console::word(
+        b"  certificate 07              shows the certificate that a stamp names by 07\n",
+    );
+    program_console::word(
+        b"  certificate 07 other.card   looks for it on the card, and then in the card image of a file\n",
+    );
     program_console::word(b"  move new.card 0101 100 0102 50 011A 40\n");
     program_console::word(
         b"                              writes the card with other rooms into a new file\n",

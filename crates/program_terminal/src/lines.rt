@@ -1,4 +1,5 @@
 // One line of the input and its answer. Each function here that answers a line says how it ended (status.rt).
+use crate::certificates;
 use crate::help;
 use crate::hex;
 use crate::keep;
@@ -7,6 +8,7 @@ use crate::moves;
 use crate::place;
 use crate::rights;
 use crate::status;
+use crate::status::Ended;
 use crate::text;
 use program_console::result;
 use program_console::words;
@@ -112,9 +114,8 @@ fn command(s: &[u8], image: &mut [u8], kept: &mut [u8], session: &mut [u8], how:
     send(base::part(&bytes, 0, r.n), image, kept, session, how)
 }
 
-// A move's line.
-fn move_line(s: &[u8], image: &[u8]) -> usize {
-    let r = moves::line(base::part(s, 4, s.len()), image);
+// How a line ended that another file answers, if it could read it.
+fn ended(s: &[u8], r: Ended) -> usize {
     if r.good {
         return r.status;
     }
@@ -148,8 +149,12 @@ fn line(s: &[u8], image: &mut [u8], kept: &mut [u8], session: &mut [u8], how: Ho
     if text::is(word, b"open") {
         return open_line(s, session);
     }
+    let rest = base::part(s, word.len(), s.len());
     if text::is(word, b"move") {
-        return move_line(s, image);
+        return ended(s, moves::line(rest, image));
+    }
+    if text::is(word, b"certificate") {
+        return ended(s, certificates::line(rest, image));
     }
     if s.len() <= text::next(s, 0) {
         if told(word, image, session) {

@@ -2,6 +2,7 @@
 // session, ask what the card and the session are, or move the card (help.rt). The argument is the file of a card image, which holds each
 // change before its command is answered; without it the card is the card to try.
 mod card;
+mod certificates;
 mod files;
 mod help;
 mod hex;

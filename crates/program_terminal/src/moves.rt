@@ -2,6 +2,7 @@
 use crate::hex;
 use crate::listing;
 use crate::status;
+use crate::status::Ended;
 use crate::text;
 use program_console::result;
 use program_console::words;
@@ -50,16 +51,6 @@ fn rows(s: &[u8], from: usize, list: &mut [u8]) -> usize {
         n += 1;
     }
     MOST
-}
-
-// Whether a move's line could be read, and how it ended.
-pub(crate) struct Ended {
-    pub(crate) good: bool,
-    pub(crate) status: usize,
-}
-
-fn outcome(good: bool, status: usize) -> Ended {
-    Ended { good, status }
 }
 
 // Writes the new card's image whole, and waits until the device has it. Answers whether it has.
@@ -112,13 +103,10 @@ pub(crate) fn line(s: &[u8], image: &[u8]) -> Ended {
     let mut list = [0; 600];
     let n = rows(s, text::next(s, at), &mut list);
     if MOST <= n {
-        return outcome(false, status::REFUSED);
+        return status::unread();
     }
     if s.len() <= at {
-        return outcome(false, status::REFUSED);
+        return status::unread();
     }
-    outcome(
-        true,
-        move_to(text::word(s, at), base::part(&list, 0, n * 6), image),
-    )
+    status::read(move_to(text::word(s, at), base::part(&list, 0, n * 6), image))
 }

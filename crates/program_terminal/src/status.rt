@@ -14,3 +14,22 @@ pub(crate) fn worse(a: usize, b: usize) -> usize {
     }
     a
 }
+
+// Whether a line could be read, and how it ended.
+pub(crate) struct Ended {
+    pub(crate) good: bool,
+    pub(crate) status: usize,
+}
+
+// A line that could not be read.
+pub(crate) fn unread() -> Ended {
+    Ended {
+        good: false,
+        status: REFUSED,
+    }
+}
+
+// A line that was read, and ended so.
+pub(crate) fn read(status: usize) -> Ended {
+    Ended { good: true, status }
+}

@@ -6,3 +6,4 @@ pub mod Matches
 pub mod Promises
 pub mod Done
 pub mod Linked
+pub mod Certificates

@@ -19,7 +19,7 @@ use Rattle.store_records.specs.Body.{count, behind, place, recordAt, records, n
 use Rattle.store_kinds.specs.Biometrics.{state, written, room, writtenBytes, bioOk, updated, update, activate}
 use Rattle.store_kinds.specs.Biometrics.{updatable as takesAt}
 use Rattle.store_kinds.specs.Rules.{hasKey, ruleOf, isBiometrics, applicationOf, kindOk}
-use Rattle.store_image.specs.Image.{find, has, present, wellFormed, body, recordsOf, withBody, appendTo, updateIn, activateIn}
+use Rattle.store_image.specs.Image.{lenAt, kindAt, find, has, present, wellFormed, body, recordsOf, withBody, appendTo, updateIn, activateIn}
 use Rattle.store_kinds.specs.declared.rules.Key.{Key}
 use Rattle.store_kinds.specs.declared.rules.Key.the-variants.{Kind}
 use Rattle.store_kinds.specs.declared.rules.Rule.{Rule}
@@ -191,6 +191,10 @@ module _ (xs : List ℕ) (o : bioOk xs ≡ true) where
 -- a section that is found lies within the image, and two of different kinds lie apart
 pub found-inside : (img : List ℕ) (k s n : ℕ) → find img k ≡ At s n → s + n ≤ length img
 found-inside = splicing.found-inside
+
+-- its length and its kind stand in the six bytes before it
+pub found-head : (img : List ℕ) (k s n : ℕ) → find img k ≡ At s n → (6 ≤ s) × (lenAt img (s - 6) ≡ n) × (kindAt img (s - 6) ≡ k)
+found-head = splicing.found-head
 
 pub found-apart : (img : List ℕ) (k s n j t m : ℕ) → (j ≡ k → ⊥) → find img k ≡ At s n → find img j ≡ At t m → (t + m ≤ s) ⊎ (s + n ≤ t)
 found-apart = splicing.found-apart

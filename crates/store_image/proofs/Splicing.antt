@@ -1,7 +1,7 @@
 -- A new body of the same length in a section's place: what is found stays found, other bodies stay, and the image stays well formed.
 -- Read before: specs/Image.antt, Sections. Exports: `Way`, `way` (the section at hand is found or passed), `found-…` (what is found lies in the
 -- image, apart from others, and is right for its kind), `spliced-…` (the image with the new body).
-use Prim.Native.Nat.{ℕ, zero, suc, _+_, _≤_, _<_}
+use Prim.Native.Nat.{ℕ, zero, suc, _+_, _-_, _≤_, _<_}
 use mathlib.Core.Path.{_≡_, refl, sym, ap, _∙_}
 use mathlib.Core.Bool.{Bool, true, false, _&&_}
 use mathlib.Core.List.{List}
@@ -40,18 +40,22 @@ way f img p k s n = go (leb (endAt img p) (length img)) (eqb (kindAt img p) k) r
     go true true ea eb e = here-it-is (leb-true _ _ ea) (eqb-true _ _ eb) (cc) (cc)
     go true false ea eb e = further (leb-true _ _ ea) (eqb-false _ _ eb) e
 
-record Within (img : List ℕ) (p s n : ℕ) : Type 0 where
+-- a body that is found lies within the image, behind its length and its kind
+record Within (img : List ℕ) (p k s n : ℕ) : Type 0 where
   after : p + 6 ≤ s
   inside : s + n ≤ length img
+  head : (lenAt img (s - 6) ≡ n) × (kindAt img (s - 6) ≡ k)
 
-found-within : (f : ℕ) (img : List ℕ) (p k s n : ℕ) → findFrom f img p k ≡ At s n → Within img p s n
+found-within : (f : ℕ) (img : List ℕ) (p k s n : ℕ) → findFrom f img p k ≡ At s n → Within img p k s n
 unfolding findFrom
 found-within zero img p k s n e = missing-at s n e
 found-within (suc f) img p k s n e = go (found-within f img (endAt img p) k s n) (way f img p k s n e)
   where
-    go : (findFrom f img (endAt img p) k ≡ At s n → Within img (endAt img p) s n) → Way img p k s n f → Within img p s n
-    go r (here-it-is h i j l) = record { after = omega arith; inside = omega arith }
-    go r (further h i j) = let w = r j in record { after = omega arith; inside = w .inside }
+    go : (findFrom f img (endAt img p) k ≡ At s n → Within img (endAt img p) k s n) → Way img p k s n f → Within img p k s n
+    go r (here-it-is h i j l) =
+        let q : s - 6 ≡ p = omega arith in
+        record { after = omega arith; inside = omega arith; head = (ap (λ (x : ℕ). lenAt img x) q ∙ l, ap (λ (x : ℕ). kindAt img x) q ∙ i) }
+    go r (further h i j) = let w = r j in record { after = omega arith; inside = w .inside; head = w .head }
 
 -- sections of two kinds lie apart
 apart : (f : ℕ) (img : List ℕ) (p k s n j t m : ℕ) → (j ≡ k → ⊥) → findFrom f img p k ≡ At s n → findFrom f img p j ≡ At t m → (t + m ≤ s) ⊎ (s + n ≤ t)
@@ -69,6 +73,10 @@ apart (suc f) img p k s n j t m ne e d = go (apart f img (endAt img p) k s n j t
 pub found-inside : (img : List ℕ) (k s n : ℕ) → find img k ≡ At s n → s + n ≤ length img
 unfolding find
 found-inside img k s n e = found-within (length img) img 0 k s n e .inside
+
+pub found-head : (img : List ℕ) (k s n : ℕ) → find img k ≡ At s n → (6 ≤ s) × (lenAt img (s - 6) ≡ n) × (kindAt img (s - 6) ≡ k)
+unfolding find
+found-head img k s n e = let w = found-within (length img) img 0 k s n e in (w .after, w .head .0, w .head .1)
 
 pub found-apart : (img : List ℕ) (k s n j t m : ℕ) → (j ≡ k → ⊥) → find img k ≡ At s n → find img j ≡ At t m → (t + m ≤ s) ⊎ (s + n ≤ t)
 unfolding find

@@ -9,6 +9,10 @@
 // 5, a move: the length of the target (4 bytes, little-endian), that of the list (2 bytes, little-endian), the list. The target is filled
 //    with A5. The line: the result, a hash of the target. Without a refusal the card's image is from now on the first bytes of the
 //    target, as many as the result says.
+// 6, a file: its kind (2 bytes, little-endian). The line: the result, a hash of the part of the card's image that the result tells.
+// 7, certificates: the first and the last reference (1 byte each), the length of the card's body (4 bytes, little-endian), its bytes, the
+//    length of the desk's body (4 bytes, little-endian), its bytes. A line for each reference from the first to the last: the result, and
+//    the certificate that the store's function returns (`-` where there is none).
 use program_console::result;
 use store_records::little::read16;
 use store_records::little::read32;
@@ -195,6 +199,65 @@ fn moved(s: &[u8], card: &mut [u8], image: usize, session: usize) -> Turn {
     }
 }
 
+// The line of a file.
+fn tell_file(image: &[u8], kind: u16) {
+    let r = malquindo::malquindo_file(image, kind);
+    let body = base::part(image, result::file_place(r), result::file_length(r));
+    program_console::number(r);
+    program_console::word(b" ");
+    program_console::number(hash(body));
+    program_console::end();
+}
+
+// A file.
+fn file(s: &[u8], card: &[u8], image: usize, session: usize) -> Turn {
+    if s.len() < 2 {
+        return torn(s);
+    }
+    let kind = read16(s, 0);
+    tell_file(base::part(card, 0, image), (kind % 65536) as u16);
+    Turn {
+        left: s.len() - 2,
+        image,
+        session,
+    }
+}
+
+// The line of a certificate.
+fn tell_certificate<'a>(card: &'a [u8], desk: &'a [u8], reference: u8) {
+    program_console::number(malquindo::malquindo_certificate(card, desk, reference));
+    program_console::bytes(store_certificates::named_certificate(card, desk, reference));
+    program_console::end();
+}
+
+// The lines of the references from the first to the last.
+fn tell_certificates<'a>(card: &'a [u8], desk: &'a [u8], first: usize, last: usize) {
+    for n in first..=last {
+        tell_certificate(card, desk, (n % 256) as u8);
+    }
+}
+
+// Certificates.
+fn certificates(s: &[u8], image: usize, session: usize) -> Turn {
+    let n = read32(s, 2);
+    let card = base::part(s, 6, n);
+    let rest = base::part(s, 6 + n, s.len());
+    let m = read32(rest, 0);
+    let desk = base::part(rest, 4, m);
+    if rest.len() < 4 {
+        return torn(s);
+    }
+    if desk.len() < m {
+        return torn(s);
+    }
+    tell_certificates(card, desk, base::byte(s, 0), base::byte(s, 1));
+    Turn {
+        left: base::natural::saturating_sub(rest.len(), 4 + m),
+        image,
+        session,
+    }
+}
+
 // Answers the case that s starts with.
 fn case(s: &[u8], card: &mut [u8], i: usize, kept: &mut [u8], n: usize) -> Turn {
     let rest = base::part(s, 1, s.len());
@@ -204,6 +267,8 @@ fn case(s: &[u8], card: &mut [u8], i: usize, kept: &mut [u8], n: usize) -> Turn 
         3 => opening(rest, kept, i, n),
         4 => command(rest, card, i, kept, n),
         5 => moved(rest, card, i, n),
+        6 => file(rest, card, i, n),
+        7 => certificates(rest, i, n),
         _ => torn(s),
     }
 }

@@ -4,6 +4,8 @@
 //! the image is copied. Every file handed out by a layout is good for the image it was read
 //! from, until that image is changed.
 
+use std::ops::Range;
+
 /// The most bytes an image has.
 const LONGEST_IMAGE: usize = 262_144;
 /// Bytes before a section's body: its length (4 bytes), its kind (2 bytes).
@@ -76,6 +78,8 @@ pub struct RecordRule {
     pub certificates: bool,
 }
 
+const TRAVEL_CERTIFICATES_KIND: u16 = 0x011A;
+
 /// The table of record files, by ascending kind.
 static RECORD_RULES: [RecordRule; 6] = [
     RecordRule {
@@ -97,7 +101,7 @@ static RECORD_RULES: [RecordRule; 6] = [
         certificates: false,
     },
     RecordRule {
-        kind: 0x011A,
+        kind: TRAVEL_CERTIFICATES_KIND,
         application: Application::Travel,
         id: 0x011A,
         short_id: 0x1A,
@@ -188,6 +192,13 @@ impl RecordFile {
         (used <= body.len()).then_some(file)
     }
 
+    /// Reads a body of travel certificates that stands by itself: its first byte is at place 0.
+    /// No image is around it, so it may be longer than any image.
+    pub fn travel_certificates(body: &[u8]) -> Option<Self> {
+        let i = record_rule(TRAVEL_CERTIFICATES_KIND)?;
+        Self::read(&RECORD_RULES[i], body, 0)
+    }
+
     /// The records in their order, each a part of the image.
     pub fn records<'a>(&self, image: &'a [u8]) -> Records<'a> {
         Records {
@@ -195,6 +206,29 @@ impl RecordFile {
                 .get(self.start + 2..self.start + self.used)
                 .unwrap_or(&[]),
         }
+    }
+
+    /// Where the bytes of a record stand in the image, without the length before them. Numbers
+    /// start at 1; none where no record has this number.
+    pub fn place(&self, number: usize, image: &[u8]) -> Option<Range<usize>> {
+        let mut records = self.records(image);
+        let before: usize = records
+            .by_ref()
+            .take(number.checked_sub(1)?)
+            .map(|record| 2 + record.len())
+            .sum();
+        let start = self.start + 2 + before + 2;
+        Some(start..start + records.next()?.len())
+    }
+
+    /// The whole body, with the bytes that are free.
+    fn body(&self) -> Range<usize> {
+        self.start..self.start + self.length
+    }
+
+    /// The part of the body that is used: count and records.
+    fn held(&self) -> Range<usize> {
+        self.start..self.start + self.used
     }
 
     /// Whether there is room for a record of n bytes and its length.
@@ -282,6 +316,16 @@ impl BiometricsFile {
     /// The kind of its section, 0401 to 0440.
     fn kind(&self) -> u16 {
         FIRST_BIOMETRICS_KIND + self.index as u16
+    }
+
+    /// The whole body, with the room that is not written yet.
+    fn body(&self) -> Range<usize> {
+        self.start..self.start + BIOMETRICS_HEADER + self.room
+    }
+
+    /// The part of the body that is used: state, w and the bytes written.
+    fn held(&self) -> Range<usize> {
+        self.start..self.start + BIOMETRICS_HEADER + self.written
     }
 
     /// The bytes written so far.
@@ -455,17 +499,27 @@ impl Layout {
         records.chain(biometrics)
     }
 
+    /// Where the body of a kind stands; none where the kind is not there.
+    pub fn body(&self, kind: u16) -> Option<Range<usize>> {
+        match record_rule(kind) {
+            Some(i) => self.records[i].as_ref().map(RecordFile::body),
+            None => self.biometrics_file(kind).map(BiometricsFile::body),
+        }
+    }
+
     /// What the body of a kind holds: count and records, or state, w and the bytes written.
     /// A kind that is not there holds nothing.
     pub fn held<'a>(&self, kind: u16, image: &'a [u8]) -> &'a [u8] {
-        let lies = match record_rule(kind) {
-            Some(i) => self.records[i].map(|file| (file.start, file.used)),
-            None => biometrics_index(kind)
-                .and_then(|index| *self.biometrics.get(index)?)
-                .map(|file| (file.start, BIOMETRICS_HEADER + file.written)),
+        let place = match record_rule(kind) {
+            Some(i) => self.records[i].as_ref().map(RecordFile::held),
+            None => self.biometrics_file(kind).map(BiometricsFile::held),
         };
-        let (start, length) = lies.unwrap_or((0, 0));
-        image.get(start..start + length).unwrap_or(&[])
+        place.and_then(|place| image.get(place)).unwrap_or(&[])
+    }
+
+    /// The biometrics file of a kind.
+    fn biometrics_file(&self, kind: u16) -> Option<&BiometricsFile> {
+        self.biometrics.get(biometrics_index(kind)?)?.as_ref()
     }
 
     /// Whether each application is whole or absent. A biometrics file needs the certificates of

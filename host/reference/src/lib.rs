@@ -10,11 +10,13 @@
 //! - `apdu` and `objects`: readers of the command's shape and its data objects;
 //! - `search`: whether a string occurs in a window;
 //! - `commands`: the eight commands;
-//! - `moving`: the move of a card to rooms of other sizes.
+//! - `moving`: the move of a card to rooms of other sizes;
+//! - `certificates`: the certificate that a stamp names, on the card or in the desk's copy.
 
 #![forbid(unsafe_code)]
 
 mod apdu;
+mod certificates;
 mod commands;
 mod image;
 mod moving;
@@ -35,13 +37,14 @@ pub const SESSION_LEN: usize = 25;
 /// The shortest response buffer that a command takes.
 const SHORTEST_RESPONSE: usize = 2_050;
 
-/// Why a call gets no status word. The last four are of a move.
+/// Why a call gets no status word. 9 is of a stamp's certificate, the last four are of a move.
 #[derive(Clone, Copy)]
 enum Refusal {
     Response = 1,
     Image = 2,
     Rights = 3,
     Session = 4,
+    Certificates = 9,
     List = 10,
     Missing = 11,
     Room = 12,
@@ -103,6 +106,36 @@ pub fn command(image: &mut [u8], session: &mut [u8], command: &[u8], response: &
 pub fn move_card(old: &[u8], list: &[u8], target: &mut [u8]) -> u64 {
     match moving::move_card(old, list, target) {
         Ok(length) => length as u64,
+        Err(refusal) => refusal.result(),
+    }
+}
+
+/// Where the body of a kind stands in an image.
+///
+/// The result is place * 2^32 + length; the place is that of the body's first byte, behind the
+/// section's head. It is 0 where the kind is not there or the image is not well formed. No body
+/// has this result, for none is at place 0.
+pub fn file(image: &[u8], kind: u16) -> u64 {
+    match Layout::read(image).and_then(|layout| layout.body(kind)) {
+        Some(body) => ((body.start as u64) << 32) | body.len() as u64,
+        None => 0,
+    }
+}
+
+/// The certificate that a stamp's reference byte names: from the card's body of travel
+/// certificates if it has a record of that number, else from the desk's copy of such a body.
+/// Either body not well formed is refusal 9, before all.
+///
+/// The result is refusal * 2^32 + which * 2^28 + place * 2^10 + length. Which is 0 for missing,
+/// 1 for the card, 2 for the desk. The place is that of the certificate's first byte in its body.
+/// All but the refusal is 0 where the certificate is missing or the call is refused.
+pub fn certificate(card: &[u8], desk: &[u8], reference: u8) -> u64 {
+    match certificates::find(card, desk, reference) {
+        Ok(Some(found)) => {
+            let (which, place) = (found.owner as u64, found.place);
+            (which << 28) | ((place.start as u64) << 10) | place.len() as u64
+        }
+        Ok(None) => 0,
         Err(refusal) => refusal.result(),
     }
 }

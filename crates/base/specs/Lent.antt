@@ -1,0 +1,12 @@
+-- A part of a slice that is lent, as a function returns it: that very memory, and not a copy.
+use Prim.Native.Nat.{ℕ, _+_}
+use mathlib.Core.Path.{_≡_}
+use mathlib.Core.List.{List}
+use denote.Ref.{RefT, ptr, now}
+use Rattle.base.specs.Bytes.{part}
+
+-- r is the part of s that has n bytes from a on. A pointer is a block of memory and an offset in it [V11]
+pub record PartOf (s : RefT (List ℕ)) (a n : ℕ) (r : RefT (List ℕ)) : Type 0 where
+  pub block : ptr r .0 ≡ ptr s .0
+  pub offset : ptr r .1 ≡ ptr s .1 + a
+  pub bytes : now r ≡ part (now s) a n

@@ -1,0 +1,336 @@
+-- The certificate that a stamp names: what the results of `malquindo_file` and `malquindo_certificate` tell, and that a certificate stays over
+-- any calls. Read before: ../specs/Certificates.antt, proofs/Locating.antt of store_certificates. Exports `c-file`, `c-certifies`,
+-- `c-certificate-kept`.
+use Prim.Native.Nat.{ℕ, _+_, _-_, _*_, _/_, _%_, _≤_, _<_}
+use mathlib.Core.Path.{_≡_, refl, sym, ap, ap₂, subst, _∙_}
+use mathlib.Core.Bool.{Bool, true, false, _&&_, and-true}
+use mathlib.Core.List.{List, [], _∷_, _++_, List·Memᴰ, List·Memᴰ·head, List·Memᴰ·tail}
+use native.Mathlib.Omega.{arith}
+use native.Mathlib.Nat.{mod-eq-of-lt}
+use lib.ListN.{length}
+use borrow.Author.Tests.{leb-true}
+use Rattle.base.specs.Choice.{allOf}
+use Rattle.base.specs.Bytes.{part}
+use Rattle.base.proofs.Cases.{false-true, by-cases, allOf-facts}
+use Rattle.store_records.specs.Body.{count, records, nth, bodyOk}
+use Rattle.store_records.proofs.Bodies.{bodyOk-facts, bodyOk-short, records-length}
+use Rattle.store_kinds.specs.Rules.{isBiometrics}
+use Rattle.store_image.specs.Image.{lenAt, kindAt, find, has, body, recordsOf, wellFormed}
+use Rattle.store_image.specs.declared.Found.{Found}
+use Rattle.store_image.specs.declared.Found.the-variants.{At, Missing}
+use Rattle.store_image.proofs.Files.{has-found, has-missing, body-lacking, body-wellFormed}
+use Rattle.store_image.proofs.Laws.{found-inside, found-head, found-body}
+use Rattle.store_certificates.specs.Certificates.{certificatesOk, hasRecord, located, whichBody}
+use Rattle.store_certificates.specs.declared.Stretch.{Stretch}
+use Rattle.store_certificates.specs.declared.Located.{Located}
+use Rattle.store_certificates.specs.declared.Located.the-variants.{Card, Desk, Missing as NotThere, Refused}
+use Rattle.store_certificates.proofs.Locating.{certificatesOk-bodyOk, hasRecord-accepted, hasRecord-facts, Stands, BothOk, Told, told}
+use Rattle.store_certificates.proofs.Keeping.{located-kept}
+use Rattle.malquindo.specs.Face.{foundResult, fileResult, certificateResult}
+use Rattle.promises.specs.Linked.{refusalIn, CCall, afterCallC, afterC, additionsC, historyC}
+use Rattle.promises.specs.Certificates.{filePlaceIn, fileLengthIn, whichIn, certificatePlaceIn, certificateLengthIn, FileC, C-file, Numbers, certificateBytes, StandsC, CertifiedC, C-certifies, cardBody, certificateOn, CertificateKept, C-certificate-kept}
+use Rattle.promises.proofs.Calling.{c-holds}
+
+-- ---- where a file's body stands
+
+image-short : (img : List ℕ) → wellFormed img ≡ true → length img ≤ 262144
+unfolding wellFormed
+image-short img o = leb-true _ _ (allOf-facts _ o .0)
+
+-- the two numbers of a result
+file-place : (s n r : ℕ) → n < 4294967296 → r ≡ s * 4294967296 + n → filePlaceIn r ≡ s
+unfolding filePlaceIn
+file-place s n r h e = omega arith
+
+file-length : (s n r : ℕ) → n < 4294967296 → r ≡ s * 4294967296 + n → fileLengthIn r ≡ n
+unfolding fileLengthIn
+file-length s n r h e = omega arith
+
+module _ (img : List ℕ) (k r : ℕ) where
+  file-none : r ≡ 0 → (wellFormed img ≡ true → has img k ≡ true → ⊥) → FileC img k r
+  unfolding filePlaceIn fileLengthIn
+  file-none z f =
+      record {
+        there-complete = λ o h. absurd (f o h);
+        there-sound = λ h. absurd (omega arith);
+        within = omega arith;
+        bytes = λ h. absurd (omega arith);
+        head = λ h. absurd (omega arith);
+      }
+
+  file-at : (s n : ℕ) → wellFormed img ≡ true → find img k ≡ At s n → r ≡ foundResult (At s n) → FileC img k r
+  file-at s n o e f =
+      let i = found-inside img k s n e in
+      let h = found-head img k s n e in
+      let m = image-short img o in
+      let q : r ≡ s * 4294967296 + n = f ∙ ap₂ (λ (x y : ℕ). x * 4294967296 + y) (mod-eq-of-lt (omega arith)) (mod-eq-of-lt (omega arith)) in
+      let p = file-place s n r (omega arith) q in
+      let l = file-length s n r (omega arith) q in
+      record {
+        there-complete = λ _ _. omega (arith, h .0);
+        there-sound = λ _. (o, has-found img k s n e);
+        within = omega arith;
+        bytes = λ _. ap₂ (λ (x y : ℕ). part img x y) p l ∙ sym (found-body img k s n e);
+        head = λ _. (ap (λ (x : ℕ). lenAt img (x - 6)) p ∙ h .1 ∙ sym l, ap (λ (x : ℕ). kindAt img (x - 6)) p ∙ h .2);
+      }
+
+-- a file that is not there
+file-lacking : (img : List ℕ) (k : ℕ) → wellFormed img ≡ true → has img k ≡ false → fileResult img k ≡ 0
+unfolding fileResult
+file-lacking img k o h = go (find img k) refl
+  where
+    go : (f : Found) → find img k ≡ f → fileResult img k ≡ 0
+    go (At s n) e = false-true (sym h ∙ has-found img k s n e)
+    go Missing e = simp (o, e)
+
+pub c-file : C-file
+unfolding fileResult
+c-file img k = by-cases (wellFormed img) (λ o. go o (find img k) refl) (λ o. file-none img k _ (simp o) (λ t _. false-true (sym o ∙ t)))
+  where
+    go : wellFormed img ≡ true → (f : Found) → find img k ≡ f → FileC img k (fileResult img k)
+    go o (At s n) e = file-at img k _ s n o e (simp (o, e))
+    go o Missing e = file-none img k _ (simp (o, e)) (λ _ h. false-true (sym (has-missing img k e) ∙ h))
+
+-- ---- the numbers of a result
+
+-- the four numbers of a result r
+record Tells (r f w s l : ℕ) : Type 0 where
+  refusal : refusalIn r ≡ f
+  which : whichIn r ≡ w
+  place : certificatePlaceIn r ≡ s
+  length : certificateLengthIn r ≡ l
+
+tells : (r f w s l : ℕ) → w < 16 → s < 262144 → l < 1024 → r ≡ f * 4294967296 + w * 268435456 + s % 262144 * 1024 + l % 1024 → Tells r f w s l
+unfolding refusalIn whichIn certificatePlaceIn certificateLengthIn
+tells r f w s l a b c e = record { refusal = omega arith; which = omega arith; place = omega arith; length = omega arith }
+
+-- which body it is can be read from any result
+which-read : (l : Located) → whichIn (certificateResult l) ≡ whichBody l
+unfolding whichIn certificateResult
+which-read (Card s) = omega arith
+which-read (Desk s) = omega arith
+which-read NotThere = omega arith
+which-read Refused = omega arith
+
+-- a result of 0 names no body
+zero-which : (r : ℕ) → r ≡ 0 → whichIn r ≡ 0
+unfolding whichIn
+zero-which r z = omega arith
+
+-- ---- which certificate it is
+
+module _ (xs : List ℕ) (n : ℕ) where
+  numbers-has : Numbers xs n → hasRecord xs n ≡ true
+  numbers-has h = hasRecord-accepted xs n (h .0) (let c = records-length xs in omega (arith, h .1))
+
+  has-numbers : hasRecord xs n ≡ true → Numbers xs n
+  has-numbers e = let h = hasRecord-facts xs n e in (h .first, (let c = records-length xs in omega (arith, h .last)))
+
+  numbers-none : hasRecord xs n ≡ false → Numbers xs n → ⊥
+  numbers-none e h = false-true (sym e ∙ numbers-has h)
+
+  -- no body has a record of number 255
+  numbers-last : certificatesOk xs ≡ true → Numbers xs n → n ≤ 254
+  numbers-last c h =
+      let b = bodyOk-facts 929 254 xs (sym (certificatesOk-bodyOk xs) ∙ c) in
+      omega (arith, b .few, h .1, records-length xs)
+
+  stands-c : (s : Stretch) (r f w : ℕ) → Stands xs n s → hasRecord xs n ≡ true → Tells r f w (s .start) (s .length) → StandsC xs n r
+  unfolding certificateBytes
+  stands-c s r f w h e t =
+      record {
+        there = has-numbers e;
+        behind = t .place ∙ h .behind;
+        within = omega (arith, h .within, t .place, t .length);
+        some = omega (arith, h .some, t .length);
+        bytes = ap₂ (λ (x y : ℕ). part xs x y) (t .place) (t .length) ∙ h .bytes;
+      }
+
+module _ (card desk : List ℕ) (n : ℕ) where
+  both : allOf (certificatesOk card ∷ certificatesOk desk ∷ []) ≡ (bodyOk 929 254 card && bodyOk 929 254 desk)
+  unfolding allOf
+  both = simp (certificatesOk-bodyOk, and-true)
+
+  both-ok : BothOk card desk n → (bodyOk 929 254 card && bodyOk 929 254 desk) ≡ true
+  both-ok h = rw (← certificatesOk-bodyOk card, ← certificatesOk-bodyOk desk, h .0, h .1)
+
+  found-card : (s : Stretch) → Told card desk n (Card s) → CertifiedC card desk n (certificateResult (Card s))
+  unfolding certificateResult
+  found-card s t =
+      let q = t .2 in
+      let r = tells (certificateResult (Card s)) 0 1 (s .start) (s .length) (omega arith) (q .start-small) (q .length-small) refl in
+      let h = has-numbers card n (t .1) in
+      record {
+        refused-complete = λ f. false-true (sym f ∙ both-ok (t .0));
+        refused-sound = λ g. absurd (omega (arith, r .refusal));
+        which-known = rw (r .which) (List·Memᴰ·tail (List·Memᴰ·head refl));
+        card-complete = λ _ _. r .which;
+        card-sound = λ _. stands-c card n s _ 0 1 q (t .1) r;
+        desk-complete = λ _ no _. absurd (no h);
+        desk-sound = λ g. absurd (omega (arith, r .which));
+        missing-complete = λ _ no _. absurd (no h);
+        missing-sound = λ z. absurd (omega (arith, r .which, zero-which _ z));
+        zero-missing = λ _ z. absurd (omega (arith, h .0));
+        ones-missing = λ _ z. absurd (omega (arith, numbers-last card n (t .0 .0) h));
+      }
+
+  found-desk : (s : Stretch) → Told card desk n (Desk s) → CertifiedC card desk n (certificateResult (Desk s))
+  unfolding certificateResult
+  found-desk s t =
+      let q = t .3 in
+      let r = tells (certificateResult (Desk s)) 0 2 (s .start) (s .length) (omega arith) (q .start-small) (q .length-small) refl in
+      let h = has-numbers desk n (t .2) in
+      let none = numbers-none card n (t .1) in
+      record {
+        refused-complete = λ f. false-true (sym f ∙ both-ok (t .0));
+        refused-sound = λ g. absurd (omega (arith, r .refusal));
+        which-known = rw (r .which) (List·Memᴰ·tail (List·Memᴰ·tail (List·Memᴰ·head refl)));
+        card-complete = λ _ g. absurd (none g);
+        card-sound = λ g. absurd (omega (arith, r .which));
+        desk-complete = λ _ _ _. r .which;
+        desk-sound = λ _. (none, stands-c desk n s _ 0 2 q (t .2) r);
+        missing-complete = λ _ _ no. absurd (no h);
+        missing-sound = λ z. absurd (omega (arith, r .which, zero-which _ z));
+        zero-missing = λ _ z. absurd (omega (arith, h .0));
+        ones-missing = λ _ z. absurd (omega (arith, numbers-last desk n (t .0 .1) h));
+      }
+
+  found-none : Told card desk n NotThere → CertifiedC card desk n (certificateResult NotThere)
+  unfolding certificateResult
+  found-none t =
+      let r = tells (certificateResult NotThere) 0 0 0 0 (omega arith) (omega arith) (omega arith) refl in
+      let none = numbers-none card n (t .1) in
+      record {
+        refused-complete = λ f. false-true (sym f ∙ both-ok (t .0));
+        refused-sound = λ g. absurd (omega (arith, r .refusal));
+        which-known = rw (r .which) (List·Memᴰ·head refl);
+        card-complete = λ _ g. absurd (none g);
+        card-sound = λ g. absurd (omega (arith, r .which));
+        desk-complete = λ _ _ g. absurd (numbers-none desk n (t .2) g);
+        desk-sound = λ g. absurd (omega (arith, r .which));
+        missing-complete = λ _ _ _. refl;
+        missing-sound = λ _. (none, numbers-none desk n (t .2));
+        zero-missing = λ _ _. refl;
+        ones-missing = λ _ _. refl;
+      }
+
+  found-refused : Told card desk n Refused → CertifiedC card desk n (certificateResult Refused)
+  unfolding certificateResult
+  found-refused t =
+      let r = tells (certificateResult Refused) 9 0 0 0 (omega arith) (omega arith) (omega arith) refl in
+      record {
+        refused-complete = λ _. refl;
+        refused-sound = λ _. sym both ∙ t;
+        which-known = rw (r .which) (List·Memᴰ·head refl);
+        card-complete = λ z _. absurd (omega (arith, r .refusal));
+        card-sound = λ g. absurd (omega (arith, r .which));
+        desk-complete = λ z _ _. absurd (omega (arith, r .refusal));
+        desk-sound = λ g. absurd (omega (arith, r .which));
+        missing-complete = λ z _ _. absurd (omega (arith, r .refusal));
+        missing-sound = λ z. absurd (omega arith);
+        zero-missing = λ z _. absurd (omega (arith, r .refusal));
+        ones-missing = λ z _. absurd (omega (arith, r .refusal));
+      }
+
+pub c-certifies : C-certifies
+c-certifies card desk n = go (located card desk n) refl
+  where
+    go : (l : Located) → located card desk n ≡ l → CertifiedC card desk n (certificateResult (located card desk n))
+    go (Card s) e = subst (λ (l : Located). CertifiedC card desk n (certificateResult l)) (sym e) (found-card card desk n s (told card desk n (Card s) e))
+    go (Desk s) e = subst (λ (l : Located). CertifiedC card desk n (certificateResult l)) (sym e) (found-desk card desk n s (told card desk n (Desk s) e))
+    go NotThere e = subst (λ (l : Located). CertifiedC card desk n (certificateResult l)) (sym e) (found-none card desk n (told card desk n NotThere e))
+    go Refused e = subst (λ (l : Located). CertifiedC card desk n (certificateResult l)) (sym e) (found-refused card desk n (told card desk n Refused e))
+
+-- ---- a certificate stays
+
+-- the card's body, taken as a program takes it
+cardBody-is : (img : List ℕ) → wellFormed img ≡ true → cardBody img ≡ body img 0x011A
+unfolding cardBody filePlaceIn fileLengthIn
+cardBody-is img o =
+    let f = c-file img 0x011A in
+    by-cases (has img 0x011A)
+    (λ h. f .bytes (f .there-complete o h))
+    (λ h. rw (file-lacking img 0x011A o h) (sym (body-lacking img 0x011A h)))
+
+-- its records are those of the file
+card-records : (img : List ℕ) → wellFormed img ≡ true → records (cardBody img) ≡ recordsOf img 0x011A
+unfolding recordsOf
+card-records img o = ap records (cardBody-is img o)
+
+certificates-records : isBiometrics 0x011A ≡ false
+certificates-records = unfold isBiometrics allOf in refl
+
+afterC-append : (img : List ℕ) (cs ds : List CCall) → afterC img (cs ++ ds) ≡ afterC (afterC img cs) ds
+unfolding afterC
+afterC-append img [] ds = refl
+afterC-append img (c ∷ cs) ds = afterC-append (afterCallC img c) cs ds
+
+-- no bytes are no body of certificates
+empty-refused : certificatesOk [] ≡ false
+empty-refused = certificatesOk-bodyOk [] ∙ bodyOk-short 929 254 [] (omega arith)
+
+-- a card with certificates has their file
+ok-has : (img : List ℕ) → wellFormed img ≡ true → certificatesOk (cardBody img) ≡ true → has img 0x011A ≡ true
+ok-has img o c =
+    by-cases (has img 0x011A) (λ h. h)
+    (λ h. false-true (sym empty-refused ∙ ap certificatesOk (sym (body-lacking img 0x011A h) ∙ sym (cardBody-is img o)) ∙ c))
+
+has-ok : (img : List ℕ) → wellFormed img ≡ true → has img 0x011A ≡ true → certificatesOk (cardBody img) ≡ true
+unfolding certificatesOk
+has-ok img o h = ap certificatesOk (cardBody-is img o) ∙ body-wellFormed img 0x011A o h
+
+only-card : (l : Located) → whichIn (certificateResult l) ≡ 1 → (s : Stretch) × (l ≡ Card s)
+only-card (Card s) e = (s, refl)
+only-card (Desk s) e = absurd (omega (arith, which-read (Desk s)))
+only-card NotThere e = absurd (omega (arith, which-read NotThere))
+only-card Refused e = absurd (omega (arith, which-read Refused))
+
+-- over further calls the list of certificates goes on
+card-grown : (img : List ℕ) (calls : List CCall) → wellFormed img ≡ true
+    → (more : List (List ℕ)) × (records (cardBody (afterC img calls)) ≡ records (cardBody img) ++ more)
+unfolding historyC
+card-grown img calls o =
+    let h = c-holds img calls o in (
+      additionsC 0x011A img calls,
+      card-records (afterC img calls) (h .well)
+          ∙ h .records 0x011A certificates-records
+          ∙ ap (λ (rs : List (List ℕ)). rs ++ additionsC 0x011A img calls) (sym (card-records img o)),
+    )
+
+-- what a result that names the card tells of its bytes
+card-bytes : (xs : List ℕ) (s : Stretch) → s .start < 262144 → s .length < 1024 → certificateBytes xs (certificateResult (Card s)) ≡ part xs (s .start) (s .length)
+unfolding certificateBytes certificateResult
+card-bytes xs s a b =
+    let t = tells (certificateResult (Card s)) 0 1 (s .start) (s .length) (omega arith) a b refl in ap₂ (λ (x y : ℕ). part xs x y) (t .place) (t .length)
+
+-- from one image to a later one
+kept-from : (img desk other : List ℕ) (later : List CCall) (n : ℕ) → wellFormed img ≡ true → bodyOk 929 254 other ≡ true → whichIn (certificateOn img desk n) ≡ 1
+    → (certificateOn (afterC img later) other n ≡ certificateOn img desk n)
+    × (certificateBytes (cardBody (afterC img later)) (certificateOn img desk n) ≡ certificateBytes (cardBody img) (certificateOn img desk n))
+unfolding certificateOn
+kept-from img desk other later n o ok w =
+    let h = c-holds img later o in
+    let f = only-card (located (cardBody img) desk n) w in
+    let s = f .0 in
+    let t = told (cardBody img) desk n (Card s) (f .1) in
+    let g = card-grown img later o in
+    let d = has-ok (afterC img later) (h .well) (h .files 0x011A (ok-has img o (t .0 .0))) in
+    let k = located-kept (cardBody img) (cardBody (afterC img later)) (g .0) (t .0 .0) d (g .1) desk other n s (certificatesOk-bodyOk other ∙ ok) (f .1) in
+    let q = t .2 in (
+      ap certificateResult (k .0 ∙ sym (f .1)),
+      rw (f .1) (card-bytes (cardBody (afterC img later)) s (q .start-small) (q .length-small) ∙ k .1 ∙ sym (card-bytes (cardBody img) s (q .start-small) (q .length-small))),
+    )
+
+pub c-certificate-kept : C-certificate-kept
+unfolding certificateOn
+c-certificate-kept img desk other calls later n o ok w =
+    let h = c-holds img calls o in
+    let now = afterC img calls in
+    let k = kept-from now desk other later n (h .well) ok w in
+    let e = afterC-append img calls later in
+    record {
+      result-kept = ap (λ (l : List ℕ). certificateOn l other n) e ∙ k .0;
+      bytes-kept = ap (λ (l : List ℕ). certificateBytes (cardBody l) (certificateOn now desk n)) e ∙ k .1;
+      history = c-certifies (cardBody now) desk n .card-sound w .bytes
+          ∙ ap (λ (rs : List (List ℕ)). nth rs n) (card-records now (h .well) ∙ h .records 0x011A certificates-records);
+    }

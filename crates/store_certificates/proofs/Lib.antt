@@ -1,0 +1,4 @@
+-- Laws of the certificate that a stamp names.
+pub mod Locating
+pub mod Keeping
+pub mod Determined

@@ -1,0 +1,2 @@
+-- The certificate that a stamp names.
+pub mod Certificates

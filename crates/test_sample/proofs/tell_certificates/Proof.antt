@@ -1,0 +1,50 @@
+-- `tell_certificates` meets its contract, which says nothing. Nothing has to be kept from turn to turn. Measure: the references left.
+use borrow.Author.Needs.{needs}
+use Prim.Native.Nat.{_+_, _-_}
+use Rattle.test_sample.proofs.tell_certificates.Statement.{statement}
+use Rattle.test_sample.proofs.tell_certificates.Tie as tie
+
+abbrev Inv-loop : tie.InvT-loop
+Inv-loop card desk first last n₀ n = Unit {0}
+
+abbrev μ-loop : tie.MeasureT-loop
+μ-loop card desk first last n₀ n = last + 1 - n
+
+loop-holds : tie.Need-loop-holds Inv-loop μ-loop
+loop-holds c = search needs
+
+cast-tell-certificate : tie.Need-cast-tell-certificate Inv-loop μ-loop
+cast-tell-certificate c = search needs
+
+tell-certificate-requires : tie.Need-tell-certificate-requires Inv-loop μ-loop
+tell-certificate-requires c κs = search needs
+
+add-n : tie.Need-add-n Inv-loop μ-loop
+add-n c = search needs
+
+loop-less : tie.Need-loop-less Inv-loop μ-loop
+loop-less c = search needs
+
+loop-again : tie.Need-loop-again Inv-loop μ-loop
+loop-again c = search needs
+
+returns : tie.Need-returns Inv-loop μ-loop
+returns c = search needs
+
+returns-2 : tie.Need-returns-2 Inv-loop μ-loop
+returns-2 c = search needs
+
+pub tell-certificates-spec : {M : Type 1} → statement M
+tell-certificates-spec =
+    tie.close
+    (tie.spec
+    Inv-loop
+    μ-loop
+    loop-holds
+    cast-tell-certificate
+    tell-certificate-requires
+    add-n
+    loop-less
+    loop-again
+    returns
+    returns-2)
