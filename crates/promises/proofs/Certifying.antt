@@ -20,11 +20,11 @@ use Rattle.store_image.specs.declared.Found.{Found}
 use Rattle.store_image.specs.declared.Found.the-variants.{At, Missing}
 use Rattle.store_image.proofs.Files.{has-found, has-missing, body-lacking, body-wellFormed}
 use Rattle.store_image.proofs.Laws.{found-inside, found-head, found-body}
-use Rattle.store_certificates.specs.Certificates.{certificatesOk, hasRecord, located, whichBody}
+use Rattle.store_certificates.specs.Certificates.{certificatesOk, hasNumber, located, whichBody}
 use Rattle.store_certificates.specs.declared.Stretch.{Stretch}
 use Rattle.store_certificates.specs.declared.Located.{Located}
 use Rattle.store_certificates.specs.declared.Located.the-variants.{Card, Desk, Missing as NotThere, Refused}
-use Rattle.store_certificates.proofs.Locating.{certificatesOk-bodyOk, hasRecord-accepted, hasRecord-facts, Stands, BothOk, Told, told}
+use Rattle.store_certificates.proofs.Locating.{certificatesOk-bodyOk, hasNumber-accepted, hasNumber-facts, Stands, BothOk, Told, told}
 use Rattle.store_certificates.proofs.Keeping.{located-kept}
 use Rattle.malquindo.specs.Face.{foundResult, fileResult, certificateResult}
 use Rattle.promises.specs.Linked.{refusalIn, CCall, afterCallC, afterC, additionsC, historyC}
@@ -120,13 +120,13 @@ zero-which r z = omega arith
 -- ---- which certificate it is
 
 module _ (xs : List ℕ) (n : ℕ) where
-  numbers-has : Numbers xs n → hasRecord xs n ≡ true
-  numbers-has h = hasRecord-accepted xs n (h .0) (let c = records-length xs in omega (arith, h .1))
+  numbers-has : Numbers xs n → hasNumber xs n ≡ true
+  numbers-has h = hasNumber-accepted xs n (h .0) (let c = records-length xs in omega (arith, h .1))
 
-  has-numbers : hasRecord xs n ≡ true → Numbers xs n
-  has-numbers e = let h = hasRecord-facts xs n e in (h .first, (let c = records-length xs in omega (arith, h .last)))
+  has-numbers : hasNumber xs n ≡ true → Numbers xs n
+  has-numbers e = let h = hasNumber-facts xs n e in (h .first, (let c = records-length xs in omega (arith, h .last)))
 
-  numbers-none : hasRecord xs n ≡ false → Numbers xs n → ⊥
+  numbers-none : hasNumber xs n ≡ false → Numbers xs n → ⊥
   numbers-none e h = false-true (sym e ∙ numbers-has h)
 
   -- no body has a record of number 255
@@ -135,7 +135,7 @@ module _ (xs : List ℕ) (n : ℕ) where
       let b = bodyOk-facts 929 254 xs (sym (certificatesOk-bodyOk xs) ∙ c) in
       omega (arith, b .few, h .1, records-length xs)
 
-  stands-c : (s : Stretch) (r f w : ℕ) → Stands xs n s → hasRecord xs n ≡ true → Tells r f w (s .start) (s .length) → StandsC xs n r
+  stands-c : (s : Stretch) (r f w : ℕ) → Stands xs n s → hasNumber xs n ≡ true → Tells r f w (s .start) (s .length) → StandsC xs n r
   unfolding certificateBytes
   stands-c s r f w h e t =
       record {

@@ -11,10 +11,10 @@ use Rattle.base.proofs.Parts.{length-part}
 use Rattle.store_records.specs.Little.{le16}
 use Rattle.store_records.specs.Body.{count, place, records}
 use Rattle.store_records.proofs.Bodies.{okAt-facts, okTo-at, bodyOk-facts, records-length, records-at}
-use Rattle.store_certificates.specs.Certificates.{certificatesOk, hasRecord, stretchOf, located}
+use Rattle.store_certificates.specs.Certificates.{certificatesOk, hasNumber, stretchOf, located}
 use Rattle.store_certificates.specs.declared.Stretch.{Stretch}
 use Rattle.store_certificates.specs.declared.Located.the-variants.{Card}
-use Rattle.store_certificates.proofs.Locating.{certificatesOk-bodyOk, hasRecord-facts, hasRecord-accepted, located-card, told}
+use Rattle.store_certificates.proofs.Locating.{certificatesOk-bodyOk, hasNumber-facts, hasNumber-accepted, located-card, told}
 
 -- the length before a record is the record's length
 length-at : (xs : List ℕ) (i : ℕ) → certificatesOk xs ≡ true → i < count xs → le16 xs (place xs i) ≡ length (getD (records xs) i [])
@@ -41,18 +41,18 @@ module _ (card later : List ℕ) (more : List (List ℕ)) (c : certificatesOk ca
   place-kept zero h = refl
   place-kept (suc i) h = ap₂ (λ (p l : ℕ). p + 2 + l) (place-kept i (omega arith)) (length-kept i (omega arith))
 
-  stretchOf-kept : (n : ℕ) → hasRecord card n ≡ true → stretchOf later n ≡ stretchOf card n
+  stretchOf-kept : (n : ℕ) → hasNumber card n ≡ true → stretchOf later n ≡ stretchOf card n
   unfolding stretchOf
   stretchOf-kept n h =
-      let a = hasRecord-facts card n h in
+      let a = hasNumber-facts card n h in
       let i : n - 1 < count card = omega (arith, a .first, a .last) in
       rw (length-kept (n - 1) i, place-kept (n - 1) (omega arith))
 
-  stretch-bytes : (n : ℕ) → hasRecord card n ≡ true
+  stretch-bytes : (n : ℕ) → hasNumber card n ≡ true
       → part later (stretchOf later n .start) (stretchOf later n .length) ≡ part card (stretchOf card n .start) (stretchOf card n .length)
   unfolding stretchOf
   stretch-bytes n h =
-      let a = hasRecord-facts card n h in
+      let a = hasNumber-facts card n h in
       let g = count-grows in
       let i : n - 1 < count card = omega (arith, a .first, a .last) in
       sym (records-at later (n - 1) (omega arith)) ∙ record-kept (n - 1) i ∙ records-at card (n - 1) i
@@ -63,10 +63,10 @@ module _ (card later : List ℕ) (more : List (List ℕ)) (c : certificatesOk ca
       → (located later other n ≡ Card s) × (part later (s .start) (s .length) ≡ part card (s .start) (s .length))
   located-kept desk other n s o h =
       let t = told card desk n (Card s) h in
-      let a = hasRecord-facts card n (t .1) in
+      let a = hasNumber-facts card n (t .1) in
       let g = count-grows in
       let q : s ≡ stretchOf card n = cc (located-card card desk n c (t .0 .1) (t .1)) in
       let k : stretchOf later n ≡ s = stretchOf-kept n (t .1) ∙ sym q in (
-        located-card later other n d o (hasRecord-accepted later n (a .first) (omega (arith, a .last))) ∙ ap Card k,
+        located-card later other n d o (hasNumber-accepted later n (a .first) (omega (arith, a .last))) ∙ ap Card k,
         ap (λ (x : Stretch). part later (x .start) (x .length)) (sym k) ∙ stretch-bytes n (t .1) ∙ ap (λ (x : Stretch). part card (x .start) (x .length)) (sym q),
       )

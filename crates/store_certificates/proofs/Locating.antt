@@ -1,5 +1,5 @@
 -- Which of the two bodies has a certificate, and where it stands there.
--- Read before: specs/Certificates.antt. Exports: `certificatesOk-bodyOk`; `hasRecord-…` (a number and a count); `Stands`, `stands` (a record is
+-- Read before: specs/Certificates.antt. Exports: `certificatesOk-bodyOk`; `hasNumber-…` (a number and a count); `Stands`, `stands` (a record is
 -- whole in its body, and place and length are small); `located-…` (the answer by the tests, in their order); `Told`, `told` (what an answer
 -- tells); `card-…`, `desk-…`, `none-part` (what is returned, by the answer).
 use Prim.Native.Nat.{ℕ, zero, suc, _+_, _*_, _-_, _≤_, _<_, min}
@@ -20,7 +20,7 @@ use Rattle.store_records.specs.Body.{count, place, records, nth, okAt, okTo, bo
 use Rattle.store_records.proofs.Bodies.{place-le, okAt-facts, okTo-at, bodyOk-facts, nth-at}
 use Rattle.store_kinds.specs.Rules.{rule, rules, travel, firstRule, ruleOf}
 use Rattle.store_kinds.proofs.ByKind.{kindOk-rule}
-use Rattle.store_certificates.specs.Certificates.{certificatesOk, hasRecord, stretchOf, located, CertificatePart}
+use Rattle.store_certificates.specs.Certificates.{certificatesOk, hasNumber, stretchOf, located, CertificatePart}
 use Rattle.store_certificates.specs.declared.Stretch.{Stretch}
 use Rattle.store_certificates.specs.declared.Located.{Located}
 use Rattle.store_certificates.specs.declared.Located.the-variants.{Card, Desk, Missing, Refused}
@@ -33,29 +33,29 @@ unfolding certificatesOk
 certificatesOk-bodyOk xs = kindOk-rule 0x011A xs (rule 0x011A travel 0x011A 0x1A 929 254) (unfold ruleOf firstRule rules in refl)
 
 module _ (xs : List ℕ) (n : ℕ) where
-  pub hasRecord-zero : n < 1 → hasRecord xs n ≡ false
-  unfolding hasRecord allOf
-  hasRecord-zero h = simp (lt-leb _ _ h)
+  pub hasNumber-zero : n < 1 → hasNumber xs n ≡ false
+  unfolding hasNumber allOf
+  hasNumber-zero h = simp (lt-leb _ _ h)
 
-  pub hasRecord-count : (k : ℕ) → 1 ≤ n → k ≡ count xs → leb n k ≡ hasRecord xs n
-  unfolding hasRecord allOf
-  hasRecord-count k h e = simp (e, le-leb _ _ h, and-true)
+  pub hasNumber-count : (k : ℕ) → 1 ≤ n → k ≡ count xs → leb n k ≡ hasNumber xs n
+  unfolding hasNumber allOf
+  hasNumber-count k h e = simp (e, le-leb _ _ h, and-true)
 
-  pub hasRecord-past : count xs < n → hasRecord xs n ≡ false
-  unfolding hasRecord allOf
-  hasRecord-past h = simp (lt-leb _ _ h, and-false)
+  pub hasNumber-past : count xs < n → hasNumber xs n ≡ false
+  unfolding hasNumber allOf
+  hasNumber-past h = simp (lt-leb _ _ h, and-false)
 
-  pub hasRecord-accepted : 1 ≤ n → n ≤ count xs → hasRecord xs n ≡ true
-  unfolding hasRecord
-  hasRecord-accepted h i = allOf-accepted _ (le-leb _ _ h, (le-leb _ _ i, tt))
+  pub hasNumber-accepted : 1 ≤ n → n ≤ count xs → hasNumber xs n ≡ true
+  unfolding hasNumber
+  hasNumber-accepted h i = allOf-accepted _ (le-leb _ _ h, (le-leb _ _ i, tt))
 
-  pub record HasRecord : Type 0 where
+  pub record HasNumber : Type 0 where
     pub first : 1 ≤ n
     pub last : n ≤ count xs
 
-  pub hasRecord-facts : hasRecord xs n ≡ true → HasRecord
-  unfolding hasRecord
-  hasRecord-facts e = let h = allOf-facts _ e in record { first = leb-true _ _ (h .0); last = leb-true _ _ (h .1 .0) }
+  pub hasNumber-facts : hasNumber xs n ≡ true → HasNumber
+  unfolding hasNumber
+  hasNumber-facts e = let h = allOf-facts _ e in record { first = leb-true _ _ (h .0); last = leb-true _ _ (h .1 .0) }
 
 -- a record has at most 929 bytes and two for its length
 place-small : (xs : List ℕ) (n : ℕ) → okTo 929 xs n ≡ true → place xs n ≤ 2 + n * 931
@@ -75,11 +75,11 @@ pub record Stands (xs : List ℕ) (n : ℕ) (s : Stretch) : Type 0 where
   pub within : s .start + s .length ≤ length xs
   pub bytes : part xs (s .start) (s .length) ≡ nth (records xs) n
 
-pub stands : (xs : List ℕ) (n : ℕ) → certificatesOk xs ≡ true → hasRecord xs n ≡ true → Stands xs n (stretchOf xs n)
+pub stands : (xs : List ℕ) (n : ℕ) → certificatesOk xs ≡ true → hasNumber xs n ≡ true → Stands xs n (stretchOf xs n)
 unfolding stretchOf
 stands xs n c h =
     let b = bodyOk-facts 929 254 xs (sym (certificatesOk-bodyOk xs) ∙ c) in
-    let a = hasRecord-facts xs n h in
+    let a = hasNumber-facts xs n h in
     let i : n - 1 < count xs = omega (arith, a .first, a .last) in
     let p = place-le xs (n - 1) (count xs) (omega arith) in
     let q = place-small xs (count xs) (b .all) in
@@ -94,11 +94,11 @@ stands xs n c h =
     }
 
 -- the same, as the code has it: `at` is the place of the record's length, which is l
-pub stretchOf-is : (xs : List ℕ) (n at l : ℕ) → certificatesOk xs ≡ true → hasRecord xs n ≡ true → at ≡ place xs (min (n - 1) 65535) → l ≡ le16 xs at
+pub stretchOf-is : (xs : List ℕ) (n at l : ℕ) → certificatesOk xs ≡ true → hasNumber xs n ≡ true → at ≡ place xs (min (n - 1) 65535) → l ≡ le16 xs at
     → (at + 2 < 262144) × (record { start = at + 2; length = l } ≡ stretchOf xs n)
 unfolding stretchOf
 stretchOf-is xs n at l c h e f =
-    let a = hasRecord-facts xs n h in
+    let a = hasNumber-facts xs n h in
     let b = bodyOk-facts 929 254 xs (sym (certificatesOk-bodyOk xs) ∙ c) in
     let q : at ≡ place xs (n - 1) = e ∙ ap (place xs) (omega (arith, a .last, b .few)) in
     let s = stands xs n c h .start-small in
@@ -116,15 +116,15 @@ module _ (card desk : List ℕ) (n : ℕ) where
   located-desk-refused e = simp (e, and-false)
 
   module _ (c : certificatesOk card ≡ true) (d : certificatesOk desk ≡ true) where
-    pub located-card : hasRecord card n ≡ true → located card desk n ≡ Card (stretchOf card n)
+    pub located-card : hasNumber card n ≡ true → located card desk n ≡ Card (stretchOf card n)
     unfolding located allOf
     located-card e = simp (c, d, e)
 
-    pub located-desk : hasRecord card n ≡ false → hasRecord desk n ≡ true → located card desk n ≡ Desk (stretchOf desk n)
+    pub located-desk : hasNumber card n ≡ false → hasNumber desk n ≡ true → located card desk n ≡ Desk (stretchOf desk n)
     unfolding located allOf
     located-desk e f = simp (c, d, e, f)
 
-    pub located-missing : hasRecord card n ≡ false → hasRecord desk n ≡ false → located card desk n ≡ Missing
+    pub located-missing : hasNumber card n ≡ false → hasNumber desk n ≡ false → located card desk n ≡ Missing
     unfolding located allOf
     located-missing e f = simp (c, d, e, f)
 
@@ -134,9 +134,9 @@ module _ (card desk : List ℕ) (n : ℕ) where
 
   -- what an answer tells
   abbrev pub Told : Located → Type 0
-  Told (Card s) = BothOk × (hasRecord card n ≡ true) × Stands card n s
-  Told (Desk s) = BothOk × (hasRecord card n ≡ false) × (hasRecord desk n ≡ true) × Stands desk n s
-  Told Missing = BothOk × (hasRecord card n ≡ false) × (hasRecord desk n ≡ false)
+  Told (Card s) = BothOk × (hasNumber card n ≡ true) × Stands card n s
+  Told (Desk s) = BothOk × (hasNumber card n ≡ false) × (hasNumber desk n ≡ true) × Stands desk n s
+  Told Missing = BothOk × (hasNumber card n ≡ false) × (hasNumber desk n ≡ false)
   Told Refused = allOf (certificatesOk card ∷ certificatesOk desk ∷ []) ≡ false
 
   pub told : (l : Located) → located card desk n ≡ l → Told l
@@ -145,8 +145,8 @@ module _ (card desk : List ℕ) (n : ℕ) where
       subst Told e
       (ifElse-ind Told (allOf (certificatesOk card ∷ certificatesOk desk ∷ []))
       (λ t. let b = allOf-facts _ t in let k : BothOk = (b .0, b .1 .0) in
-      ifElse-ind Told (hasRecord card n) (λ p. (k, p, stands card n (k .0) p))
-      (λ q. ifElse-ind Told (hasRecord desk n) (λ p. (k, q, p, stands desk n (k .1) p)) (λ r. (k, q, r))))
+      ifElse-ind Told (hasNumber card n) (λ p. (k, p, stands card n (k .0) p))
+      (λ q. ifElse-ind Told (hasNumber desk n) (λ p. (k, q, p, stands desk n (k .1) p)) (λ r. (k, q, r))))
       (λ f. f))
 
 -- ---- what is returned

@@ -19,8 +19,8 @@ unfoldable pub certificatesOk : List ℕ → Bool
 certificatesOk xs = kindOk 0x011A xs
 
 -- the body has a record of that number; the first is number 1 [P3]
-unfoldable pub hasRecord : List ℕ → ℕ → Bool
-hasRecord xs n = allOf (leb 1 n ∷ leb n (count xs) ∷ [])
+unfoldable pub hasNumber : List ℕ → ℕ → Bool
+hasNumber xs n = allOf (leb 1 n ∷ leb n (count xs) ∷ [])
 
 -- where record n stands in the body: its first byte is behind its length [P5]
 unfoldable pub stretchOf : List ℕ → ℕ → Stretch
@@ -30,7 +30,7 @@ stretchOf xs n = record { start = place xs (n - 1) + 2; length = le16 xs (place 
 unfoldable pub located : List ℕ → List ℕ → ℕ → Located
 located card desk n =
     ifElse (allOf (certificatesOk card ∷ certificatesOk desk ∷ []))
-    (ifElse (hasRecord card n) (Card (stretchOf card n)) (ifElse (hasRecord desk n) (Desk (stretchOf desk n)) Missing))
+    (ifElse (hasNumber card n) (Card (stretchOf card n)) (ifElse (hasNumber desk n) (Desk (stretchOf desk n)) Missing))
     Refused
 
 -- what is returned, r, where the two bodies are lent: record n, as the part of its body that it is; an empty part of the card's where there

@@ -8,7 +8,7 @@ ghost use mathlib.Core.Bool.{true};
 ghost use Prim.Native.Nat.{_+_, _≤_};
 ghost use lib.ListN.{length};
 ghost use Rattle.base.specs.Lent.{PartOf};
-ghost use Rattle.store_certificates.specs.Certificates.{certificatesOk, hasRecord, stretchOf, located, CertificatePart};
+ghost use Rattle.store_certificates.specs.Certificates.{certificatesOk, hasNumber, stretchOf, located, CertificatePart};
 
 // Where a certificate stands in its body: its first byte, and how many bytes it has.
 pub struct Stretch {
@@ -32,8 +32,8 @@ fn certificates_ok(body: &[u8]) -> bool
 }
 
 // Whether a body has a record of that number.
-fn has_record(body: &[u8], n: usize) -> bool
-    ensures { λ r. ⌜ r ≡ hasRecord (now (body .entry)) n ⌝ }
+fn has_number(body: &[u8], n: usize) -> bool
+    ensures { λ r. ⌜ r ≡ hasNumber (now (body .entry)) n ⌝ }
 {
     if n < 1 {
         return false;
@@ -43,7 +43,7 @@ fn has_record(body: &[u8], n: usize) -> bool
 
 // Where record n of a body stands, behind its length.
 fn stretch_of(body: &[u8], n: usize) -> Stretch
-    requires { ⌜ (certificatesOk (now body) ≡ true) × (hasRecord (now body) n ≡ true) ⌝ }
+    requires { ⌜ (certificatesOk (now body) ≡ true) × (hasNumber (now body) n ≡ true) ⌝ }
     ensures { λ r. ⌜ r ≡ stretchOf (now (body .entry)) n ⌝ }
 {
     let at = body::place(body, n - 1);
@@ -64,10 +64,10 @@ pub fn locate(card: &[u8], desk: &[u8], reference: u8) -> Located
     if !certificates_ok(desk) {
         return Located::Refused;
     }
-    if has_record(card, n) {
+    if has_number(card, n) {
         return Located::Card(stretch_of(card, n));
     }
-    if has_record(desk, n) {
+    if has_number(desk, n) {
         return Located::Desk(stretch_of(desk, n));
     }
     Located::Missing

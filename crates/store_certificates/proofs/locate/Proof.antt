@@ -19,28 +19,32 @@ certificates-ok-requires-2 c κs = search needs
 returns-2 : tie.Need-returns-2
 returns-2 c = sym (located-desk-refused _ _ _ (flag-refused (c .before .certificates-ok2 .ensures) (c .if2 .taken)))
 
-has-record-requires : tie.Need-has-record-requires
-has-record-requires c κs = search needs
+has-number-requires : tie.Need-has-number-requires
+has-number-requires c κs = search needs
 
 stretch-of-requires : tie.Need-stretch-of-requires
 stretch-of-requires c κs =
     let b = c .before .before in
-    (flag-accepted (b .before .before .before .certificates-ok .ensures) (b .before .before .if1 .left), sym (c .before .has-record .ensures) ∙ c .if3 .taken)
+    let card = flag-accepted (b .before .before .before .certificates-ok .ensures) (b .before .before .if1 .left) in
+    let desk = flag-accepted (b .before .certificates-ok2 .ensures) (b .if2 .left) in
+    (search needs, sym (c .before .has-number .ensures) ∙ c .if3 .taken)
 
 returns-3 : tie.Need-returns-3
 returns-3 c =
     let b = c .before .before .before in
     let card = flag-accepted (b .before .before .before .certificates-ok .ensures) (b .before .before .if1 .left) in
     let desk = flag-accepted (b .before .certificates-ok2 .ensures) (b .if2 .left) in
-    ap Card (c .stretch-of .ensures) ∙ sym (located-card _ _ _ card desk (sym (c .before .before .has-record .ensures) ∙ c .before .if3 .taken))
+    ap Card (c .stretch-of .ensures) ∙ sym (located-card _ _ _ card desk (sym (c .before .before .has-number .ensures) ∙ c .before .if3 .taken))
 
-has-record-requires-2 : tie.Need-has-record-requires-2
-has-record-requires-2 c κs = search needs
+has-number-requires-2 : tie.Need-has-number-requires-2
+has-number-requires-2 c κs = search needs
 
 stretch-of-requires-2 : tie.Need-stretch-of-requires-2
 stretch-of-requires-2 c κs =
     let b = c .before .before .before .before in
-    (flag-accepted (b .before .certificates-ok2 .ensures) (b .if2 .left), sym (c .before .has-record2 .ensures) ∙ c .if4 .taken)
+    let card = flag-accepted (b .before .before .before .certificates-ok .ensures) (b .before .before .if1 .left) in
+    let desk = flag-accepted (b .before .certificates-ok2 .ensures) (b .if2 .left) in
+    (search needs, sym (c .before .has-number2 .ensures) ∙ c .if4 .taken)
 
 returns-4 : tie.Need-returns-4
 returns-4 c =
@@ -49,7 +53,7 @@ returns-4 c =
     let card = flag-accepted (b .before .before .before .certificates-ok .ensures) (b .before .before .if1 .left) in
     let desk = flag-accepted (b .before .certificates-ok2 .ensures) (b .if2 .left) in
     ap Desk (c .stretch-of2 .ensures)
-    ∙ sym (located-desk _ _ _ card desk (sym (h .before .has-record .ensures) ∙ h .if3 .left) (sym (c .before .before .has-record2 .ensures) ∙ c .before .if4 .taken))
+    ∙ sym (located-desk _ _ _ card desk (sym (h .before .has-number .ensures) ∙ h .if3 .left) (sym (c .before .before .has-number2 .ensures) ∙ c .before .if4 .taken))
 
 returns-5 : tie.Need-returns-5
 returns-5 c =
@@ -57,7 +61,7 @@ returns-5 c =
     let b = h .before .before in
     let card = flag-accepted (b .before .before .before .certificates-ok .ensures) (b .before .before .if1 .left) in
     let desk = flag-accepted (b .before .certificates-ok2 .ensures) (b .if2 .left) in
-    sym (located-missing _ _ _ card desk (sym (h .before .has-record .ensures) ∙ h .if3 .left) (sym (c .before .has-record2 .ensures) ∙ c .if4 .left))
+    sym (located-missing _ _ _ card desk (sym (h .before .has-number .ensures) ∙ h .if3 .left) (sym (c .before .has-number2 .ensures) ∙ c .if4 .left))
 
 pub locate-spec : {M : Type 1} → statement M
 locate-spec =
@@ -67,10 +71,10 @@ locate-spec =
     returns
     certificates-ok-requires-2
     returns-2
-    has-record-requires
+    has-number-requires
     stretch-of-requires
     returns-3
-    has-record-requires-2
+    has-number-requires-2
     stretch-of-requires-2
     returns-4
     returns-5)

@@ -2,13 +2,13 @@
 use mathlib.Core.Path.{refl}
 use native.Mathlib.Omega.{arith}
 use denote.Ref.{now}
-use Rattle.store_certificates.proofs.Locating.{hasRecord-facts, stretchOf-is}
+use Rattle.store_certificates.proofs.Locating.{hasNumber-facts, stretchOf-is}
 use borrow.Author.Needs.{needs}
 use Rattle.store_certificates.proofs.stretch_of.Statement.{statement}
 use Rattle.store_certificates.proofs.stretch_of.Tie as tie
 
 sub-place : tie.Need-sub-place
-sub-place c = omega (arith, hasRecord-facts (now (c .before .args .body)) (c .before .args .n) (c .before .pre .1) .first)
+sub-place c = omega (arith, hasNumber-facts (now (c .before .args .body)) (c .before .args .n) (c .before .pre .1) .first)
 
 place-requires : tie.Need-place-requires
 place-requires c κs = search needs
