@@ -97,7 +97,7 @@ uint64_t malquindo_move(const uint8_t *old, size_t old_len, const uint8_t *list,
  * 0x021A visa certificates, 0x031A biometrics certificates, 0x0400 + n Biometrics n. The result is 0 where the image has no
  * such file or is not well formed. The place of a file that is there is 6 or more, so its result is never 0.
  *
- * The place stays good as long as only malquindo_command writes the image: a command changes bytes of a body, and moves none. */
+ * A command leaves every body where it is. After a move, ask again. */
 uint64_t malquindo_file(const uint8_t *image, size_t image_len, uint16_t kind);
 
 /* The certificate that a stamp names: the record of travel certificates whose number is the stamp's reference byte.

@@ -191,6 +191,7 @@ fn which_body(l: Located) -> u64
     }
 }
 
+// Where it stands in that body.
 fn certificate_stretch(l: Located) -> Stretch
     ensures { λ r. ⌜ r ≡ certificateStretch l ⌝ }
 {

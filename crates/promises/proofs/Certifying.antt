@@ -1,10 +1,10 @@
 -- The certificate that a stamp names: what the results of `malquindo_file` and `malquindo_certificate` tell, and that a certificate stays over
 -- any calls. Read before: ../specs/Certificates.antt, proofs/Locating.antt of store_certificates. Exports `c-file`, `c-certifies`,
 -- `c-certificate-kept`.
-use Prim.Native.Nat.{ℕ, _+_, _-_, _*_, _/_, _%_, _≤_, _<_}
+use Prim.Native.Nat.{ℕ, _+_, _-_, _*_, _%_, _≤_, _<_}
 use mathlib.Core.Path.{_≡_, refl, sym, ap, ap₂, subst, _∙_}
-use mathlib.Core.Bool.{Bool, true, false, _&&_, and-true}
-use mathlib.Core.List.{List, [], _∷_, _++_, List·Memᴰ, List·Memᴰ·head, List·Memᴰ·tail}
+use mathlib.Core.Bool.{true, false, _&&_, and-true}
+use mathlib.Core.List.{List, [], _∷_, _++_, List·Memᴰ·head, List·Memᴰ·tail}
 use native.Mathlib.Omega.{arith}
 use native.Mathlib.Nat.{mod-eq-of-lt}
 use lib.ListN.{length}
@@ -12,7 +12,7 @@ use borrow.Author.Tests.{leb-true}
 use Rattle.base.specs.Choice.{allOf}
 use Rattle.base.specs.Bytes.{part}
 use Rattle.base.proofs.Cases.{false-true, by-cases, allOf-facts}
-use Rattle.store_records.specs.Body.{count, records, nth, bodyOk}
+use Rattle.store_records.specs.Body.{records, nth, bodyOk}
 use Rattle.store_records.proofs.Bodies.{bodyOk-facts, bodyOk-short, records-length}
 use Rattle.store_kinds.specs.Rules.{isBiometrics}
 use Rattle.store_image.specs.Image.{lenAt, kindAt, find, has, body, recordsOf, wellFormed}
@@ -28,7 +28,7 @@ use Rattle.store_certificates.proofs.Locating.{certificatesOk-bodyOk, hasNumber
 use Rattle.store_certificates.proofs.Keeping.{located-kept}
 use Rattle.malquindo.specs.Face.{foundResult, fileResult, certificateResult}
 use Rattle.promises.specs.Linked.{refusalIn, CCall, afterCallC, afterC, additionsC, historyC}
-use Rattle.promises.specs.Certificates.{filePlaceIn, fileLengthIn, whichIn, certificatePlaceIn, certificateLengthIn, FileC, C-file, Numbers, certificateBytes, StandsC, CertifiedC, C-certifies, cardBody, certificateOn, CertificateKept, C-certificate-kept}
+use Rattle.promises.specs.Certificates.{filePlaceIn, fileLengthIn, whichIn, certificatePlaceIn, certificateLengthIn, FileC, C-file, Numbers, certificateBytes, StandsC, CertifiedC, C-certifies, cardBody, certificateOn, C-certificate-kept}
 use Rattle.promises.proofs.Calling.{c-holds}
 
 -- ---- where a file's body stands

@@ -1,5 +1,5 @@
 -- `malquindo::malquindo_file` meets its contract.
-use mathlib.Core.Path.{sym, ap, _∙_}
+use mathlib.Core.Path.{ap, _∙_}
 use Rattle.base.proofs.Cases.{flag-accepted, flag-refused}
 use Rattle.malquindo.specs.Face.{foundResult, fileResult}
 use borrow.Author.Needs.{needs}
