@@ -9,7 +9,7 @@
  *
  * What the caller must see to. Nothing checks these three:
  *   - each pointer is to as many bytes as its length says, valid for reading and, where it is not const, for writing;
- *   - no two buffers of one call overlap;
+ *   - no buffer that is written overlaps another buffer of the call;
  *   - no pointer is null, even where the length is 0.
  * Beyond that every function takes any bytes and any lengths, and always returns.
  *
@@ -20,7 +20,7 @@
  *    3  open           the rights are not MALQUINDO_RIGHTS_LEN bytes
  *    4  open           the session buffer is shorter than MALQUINDO_SESSION_LEN
  *       command        it is shorter, its bytes are no session, or the session does not fit the image
- *    9  certificate    the card's body or the desk's body is no well-formed body of travel certificates
+ *    9  certificate    the card's body or the desk's body is not well formed
  *   10  move           the list lays out no valid image
  *   11  move           a kind of the old image is not in the list
  *   12  move           a room is too small for its content
@@ -91,30 +91,31 @@ uint64_t malquindo_command(uint8_t *image, size_t image_len, uint8_t *session, s
 uint64_t malquindo_move(const uint8_t *old, size_t old_len, const uint8_t *list, size_t list_len,
                         uint8_t *target, size_t target_len);
 
-/* Where the body of a file stands in a card image: place * 2^32 + length, both counted in bytes. The image is only read.
+/* Tells where the body of a file stands in a card image: place * 2^32 + length, both in bytes. The image is only read.
  *
  * The kind is that of the section: 0x0101 EntryRecords, 0x0102 ExitRecords, 0x011A travel certificates, 0x0203 VisaRecords,
  * 0x021A visa certificates, 0x031A biometrics certificates, 0x0400 + n Biometrics n. The result is 0 where the image has no
- * such file or is not well formed. The place of a file that is there is 6 or more, so its result is never 0.
+ * such file, or is not well formed. The place of a file that is there is 6 or more, so its result is never 0.
  *
  * A command leaves every body where it is. After a move, ask again. */
 uint64_t malquindo_file(const uint8_t *image, size_t image_len, uint16_t kind);
 
-/* The certificate that a stamp names: the record of travel certificates whose number is the stamp's reference byte.
+/* Finds the certificate that a stamp names: the record of travel certificates whose number is the stamp's reference byte.
  *
- * The card is the body of the file 0x011A of a card image, where malquindo_file says that it stands. The desk is a body of
- * the same form that the caller keeps; one with no certificate is two zero bytes. Both are only read. Where the card's body has
- * a record of this number, the certificate is that record; else the one of the desk's body, where that has it; else it is
- * missing. References 0x00 and 0xFF are always missing.
+ * The card is the body of the file 0x011A of a card image; malquindo_file tells where it stands. The desk is a body of the
+ * same form that the caller keeps; without a certificate it is two zero bytes. Both are only read, and may overlap. Where
+ * the card's body has a record of this number, the certificate is that record; else it is the one in the desk's body, where
+ * that has it; else it is missing. References 0x00 and 0xFF are always missing.
  *
- * The lower 32 bits of the result are which * 2^28 + place * 2^10 + length. Which is 1 for the card's body, 2 for the desk's,
- * 0 where the certificate is missing. The certificate is the bytes of that body from the place on, as many as the length
- * says. Where it is missing, all of the result is 0.
+ * The lower 32 bits of the result are which * 2^28 + place * 2^10 + length. Which is 1 for the card's body and 2 for the
+ * desk's. The certificate is the bytes of that body from the place on, as many as the length says. Where it is missing, the
+ * result is 0.
  *
- * Refusal 9, before all: one of the two bodies is not well formed. It has fewer than 2 bytes, more than 254 records, or a
- * record of no byte, of more than 929 bytes, or past the body's end. Neither body has a length of its own to keep to: bytes
- * behind the last record are free. */
-uint64_t malquindo_certificate(const uint8_t *card, size_t card_len, const uint8_t *desk, size_t desk_len, uint8_t reference);
+ * Refusal 9, before all: the card's body or the desk's body is not well formed. It has fewer than 2 bytes, more than 254
+ * records, or a record that has no byte, has more than 929 bytes or goes past the body's end. Bytes behind the last record
+ * are free. A body may be longer than an image. */
+uint64_t malquindo_certificate(const uint8_t *card, size_t card_len, const uint8_t *desk, size_t desk_len,
+                               uint8_t reference);
 
 /* The parts of a result. */
 

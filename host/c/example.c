@@ -1,5 +1,6 @@
 /* Selects the travel application of a card, appends a record and reads it back; then moves the card to rooms of 100 bytes
- * and reads the record there. */
+ * and reads the record there. Appends a certificate there too, and asks for certificates by number, of that card and of a
+ * desk that has one more. */
 #include <stdio.h>
 #include "malquindo.h"
 
@@ -12,13 +13,18 @@ static uint8_t larger[3 * 106];
 static uint8_t session[MALQUINDO_SESSION_LEN];
 static uint8_t response[MALQUINDO_RESPONSE_LEN];
 
+static void print(const uint8_t *bytes, size_t length)
+{
+    for (size_t i = 0; i < length; i++)
+        printf("%02X", bytes[i]);
+    printf("\n");
+}
+
 static int run(uint8_t *card, size_t card_len, const uint8_t *command, size_t command_len)
 {
     uint64_t result = malquindo_command(card, card_len, session, sizeof session,
                                         command, command_len, response, sizeof response);
-    for (size_t i = 0; i < malquindo_length(result); i++)
-        printf("%02X", response[i]);
-    printf("\n");
+    print(response, malquindo_length(result));
     return malquindo_status(result) != 0x9000;
 }
 
@@ -29,11 +35,37 @@ static int move_card(void)
     return malquindo_refusal(result) != 0 || malquindo_moved(result) != sizeof larger;
 }
 
+/* Says which body has the certificate that a stamp with this reference names, and its bytes. */
+static int certificate(uint8_t reference)
+{
+    static const uint8_t desk[] = {2, 0, 3, 0, 0x7F, 0x21, 0xC1, 3, 0, 0x7F, 0x21, 0xC2}; /* two certificates of 3 bytes */
+    uint64_t file = malquindo_file(larger, sizeof larger, 0x011A);
+    const uint8_t *card = larger + malquindo_file_place(file);
+    uint64_t result = malquindo_certificate(card, malquindo_file_length(file), desk, sizeof desk, reference);
+    size_t place = malquindo_certificate_place(result), length = malquindo_certificate_length(result);
+    if (malquindo_refusal(result) != 0)
+        return 1;
+    switch (malquindo_certificate_which(result)) {
+    case MALQUINDO_CERTIFICATE_CARD:
+        printf("certificate %u, card: ", reference);
+        print(card + place, length);
+        return 0;
+    case MALQUINDO_CERTIFICATE_DESK:
+        printf("certificate %u, desk: ", reference);
+        print(desk + place, length);
+        return 0;
+    default:
+        printf("certificate %u is missing\n", reference);
+        return 0;
+    }
+}
+
 int main(void)
 {
     static const uint8_t select[] = {0x00, 0xA4, 0x04, 0x0C, 0x07, 0xA0, 0x00, 0x00, 0x02, 0x47, 0x20, 0x01};
     static const uint8_t append[] = {0x00, 0xE2, 0x00, 0x08, 0x06, 0x5F, 0x44, 0x03, 0x55, 0x53, 0x41};
     static const uint8_t read[] = {0x00, 0xB2, 0x01, 0x05, 0x00, 0x00, 0x00};
+    static const uint8_t append_certificate[] = {0x00, 0xE2, 0x00, 0xD0, 0x03, 0x7F, 0x21, 0xC1}; /* short id 1A */
     uint8_t rights[MALQUINDO_RIGHTS_LEN];
     for (size_t i = 0; i < sizeof rights; i++)
         rights[i] = 0xFF;
@@ -41,5 +73,7 @@ int main(void)
         || malquindo_open(rights, sizeof rights, session, sizeof session) != 0)
         return 1;
     return run(image, sizeof image, select, sizeof select) || run(image, sizeof image, append, sizeof append)
-        || run(image, sizeof image, read, sizeof read) || move_card() || run(larger, sizeof larger, read, sizeof read);
+        || run(image, sizeof image, read, sizeof read) || move_card() || run(larger, sizeof larger, read, sizeof read)
+        || run(larger, sizeof larger, append_certificate, sizeof append_certificate)
+        || certificate(1) || certificate(2) || certificate(3);
 }

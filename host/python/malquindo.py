@@ -25,6 +25,20 @@ The card to try (docs/RULES.md, T1), with its commands m1 to m4:
     >>> answer == (b'_D\\x03USA_D\\x03FRA', 0x9000)
     True
 
+A certificate on the card, and one more in the desk's copy. A stamp names them by number:
+
+    >>> print(send('00E200D0037F21C1'))             # APPEND RECORD to the travel certificates
+    9000
+    >>> place, length = malquindo.file(image, 0x011A)
+    >>> card = memoryview(image)[place:place + length]
+    >>> desk = bytes.fromhex('0200 0300 7F21C1 0300 7F21C2')
+    >>> print(malquindo.certificate(card, desk, 1))
+    CARD 7F21C1
+    >>> print(malquindo.certificate(card, desk, 2))
+    DESK 7F21C2
+    >>> malquindo.certificate(card, desk, 3) is None
+    True
+
 A status word is an answer, whatever it says. A call that gets none is refused, and that is an exception:
 
     >>> malquindo.command(bytearray(b'no card'), session, b'')
@@ -32,8 +46,9 @@ A status word is an answer, whatever it says. A call that gets none is refused, 
     ...
     malquindo.Refused: 2 BAD_IMAGE: the image is not well formed
 
-open, command and move_card are for most callers. malquindo_open, malquindo_command and malquindo_move are the functions of the header
-themselves: they take every buffer of the call and answer the number of 64 bits, so that a test can lend a buffer that is too short.
+open, command, move_card, file and certificate are for most callers. malquindo_open, malquindo_command, malquindo_move, malquindo_file and
+malquindo_certificate are the functions of the header themselves: they take every buffer of the call and answer the number of 64 bits, so
+that a test can lend a buffer that is too short.
 
 Buffers are bytes, bytearray or memoryview. One that is written, such as the image, is no bytes object. Each length is that of the buffer;
 a type that does not fit is a TypeError, and two buffers that overlap are a ValueError. So no call can do harm, whatever it is given.
@@ -47,11 +62,13 @@ import os
 import pathlib
 import subprocess
 import sys
-from typing import Iterable, NamedTuple, Tuple, Union
+from typing import Iterable, NamedTuple, Optional, Tuple, Union
 
-__all__ = ['RIGHTS_LEN', 'SESSION_LEN', 'RESPONSE_LEN', 'IMAGE_LEN', 'Refusal', 'Refused', 'Answer', 'open', 'command', 'move_card',
-           'malquindo_session_len', 'malquindo_open', 'malquindo_command', 'malquindo_move',
-           'malquindo_refusal', 'malquindo_length', 'malquindo_status', 'malquindo_moved']
+__all__ = ['RIGHTS_LEN', 'SESSION_LEN', 'RESPONSE_LEN', 'IMAGE_LEN', 'Refusal', 'Refused', 'Answer', 'Holder', 'Certificate',
+           'open', 'command', 'move_card', 'file', 'certificate',
+           'malquindo_session_len', 'malquindo_open', 'malquindo_command', 'malquindo_move', 'malquindo_file', 'malquindo_certificate',
+           'malquindo_refusal', 'malquindo_length', 'malquindo_status', 'malquindo_moved', 'malquindo_file_place', 'malquindo_file_length',
+           'malquindo_certificate_which', 'malquindo_certificate_place', 'malquindo_certificate_length']
 
 RIGHTS_LEN = 60         # the rights of a chain: three certificates of 20 bytes
 SESSION_LEN = 25        # a session
@@ -70,11 +87,12 @@ Written = Union[bytearray, memoryview]
 
 
 class Refusal(enum.IntEnum):
-    """Why a call got no status word, or no new image. The numbers are those of the header."""
+    """Why a call got no status word, no new image or no certificate. The numbers are those of the header."""
     SHORT_BUFFER = 1
     BAD_IMAGE = 2
     BAD_RIGHTS = 3
     BAD_SESSION = 4
+    BAD_CERTIFICATES = 9
     BAD_LIST = 10
     MISSING_KIND = 11
     SMALL_ROOM = 12
@@ -86,6 +104,7 @@ REASONS = {
     Refusal.BAD_IMAGE: 'the image is not well formed',
     Refusal.BAD_RIGHTS: 'the rights are not 60 bytes',
     Refusal.BAD_SESSION: 'the session is malformed, or does not fit the image',
+    Refusal.BAD_CERTIFICATES: 'a body of travel certificates is not well formed',
     Refusal.BAD_LIST: 'the list of rooms lays out no valid image',
     Refusal.MISSING_KIND: 'a file of the old card has no room in the list',
     Refusal.SMALL_ROOM: 'a room is too small for its content',
@@ -110,6 +129,21 @@ class Answer(NamedTuple):
 
     def __str__(self) -> str:
         return f'{self.data.hex().upper()} {self.status:04X}'.lstrip()
+
+
+class Holder(enum.IntEnum):
+    """Whose body a certificate is in. The numbers are those of the header."""
+    CARD = 1
+    DESK = 2
+
+
+class Certificate(NamedTuple):
+    """A certificate that a stamp names: whose body it is in, and the part of that body that it is."""
+    holder: Holder
+    data: memoryview
+
+    def __str__(self) -> str:
+        return f'{self.holder.name} {self.data.hex().upper()}'
 
 
 def open(rights: Buffer) -> bytearray:
@@ -139,6 +173,30 @@ def move_card(old: Buffer, rooms: Iterable[Tuple[int, int]]) -> bytearray:
     return target[:malquindo_moved(result)]
 
 
+def file(image: Buffer, kind: int) -> Optional[Tuple[int, int]]:
+    """Where the body of a file begins in a card image, and its length. None where the image has no such file, or is not well formed.
+
+    The kind is that of the section, such as 0x011A for travel certificates. Commands move no body.
+    """
+    result = malquindo_file(image, kind)
+    return (malquindo_file_place(result), malquindo_file_length(result)) if result else None
+
+
+def certificate(card: Buffer, desk: Buffer, reference: int) -> Optional[Certificate]:
+    """The certificate that a stamp names: the record of this number in the card's body of travel certificates; where the card has none, in
+    the desk's body. None where neither has it.
+
+    The data is a view of that body, not a copy.
+    """
+    result = accept(malquindo_certificate(card, desk, reference))
+    if not result:
+        return None
+    holder = Holder(malquindo_certificate_which(result))
+    body = byte_view('card', card) if holder is Holder.CARD else byte_view('desk', desk)
+    place = malquindo_certificate_place(result)
+    return Certificate(holder, body[place:place + malquindo_certificate_length(result)])
+
+
 def malquindo_session_len() -> int:
     """How many bytes a session has."""
     return library().malquindo_session_len()
@@ -160,8 +218,18 @@ def malquindo_move(old: Buffer, rooms: Buffer, target: Written) -> int:
     return call(library().malquindo_move, read('old', old), read('rooms', rooms), written('target', target))
 
 
+def malquindo_file(image: Buffer, kind: int) -> int:
+    """Where a file stands. The result is place * 2^32 + length; 0 where there is no such file."""
+    return call(library().malquindo_file, read('image', image), number=fitting('a kind', kind, 2))
+
+
+def malquindo_certificate(card: Buffer, desk: Buffer, reference: int) -> int:
+    """A certificate. The result is refusal * 2^32 + which * 2^28 + place * 2^10 + length."""
+    return call(library().malquindo_certificate, read('card', card), read('desk', desk), number=fitting('a reference', reference, 1))
+
+
 def malquindo_refusal(result: int) -> int:
-    """Of every function: the refusal, 0 for none."""
+    """Of every function but malquindo_file: the refusal, 0 for none."""
     return result >> 32
 
 
@@ -180,6 +248,31 @@ def malquindo_moved(result: int) -> int:
     return result & 0xFFFFFFFF
 
 
+def malquindo_file_place(result: int) -> int:
+    """Of a file: where its body begins in the image."""
+    return result >> 32
+
+
+def malquindo_file_length(result: int) -> int:
+    """Of a file: the length of its body."""
+    return result & 0xFFFFFFFF
+
+
+def malquindo_certificate_which(result: int) -> int:
+    """Of a certificate: 1 where the card's body has it, 2 where the desk's has, 0 where it is missing."""
+    return result >> 28 & 0xF
+
+
+def malquindo_certificate_place(result: int) -> int:
+    """Of a certificate: where its first byte stands in that body."""
+    return result >> 10 & 0x3FFFF
+
+
+def malquindo_certificate_length(result: int) -> int:
+    """Of a certificate: its length."""
+    return result & 0x3FF
+
+
 def accept(result: int) -> int:
     """The result of a call that is not refused."""
     if malquindo_refusal(result):
@@ -196,6 +289,15 @@ def room(pair: Tuple[int, int]) -> Tuple[int, int]:
     return kind, length
 
 
+def fitting(name: str, number: int, size: int) -> int:
+    """A number of so many bytes. ctypes would cut off what does not fit."""
+    if not isinstance(number, int):
+        raise TypeError(f'{name} is an int, not {number!r}')
+    if not 0 <= number < 1 << 8 * size:
+        raise ValueError(f'{name} has {size} {"byte" if size == 1 else "bytes"}, unlike {number}')
+    return number
+
+
 def whole_view(name: str, buffer: Buffer) -> memoryview:
     """A view of a buffer whose bytes lie side by side. It has `nbytes` of them, whatever its elements are."""
     if not isinstance(buffer, (bytes, bytearray, memoryview)):
@@ -204,6 +306,12 @@ def whole_view(name: str, buffer: Buffer) -> memoryview:
     if not view.c_contiguous:
         raise TypeError(f'{name}: the bytes of this memoryview do not lie side by side')
     return view
+
+
+def byte_view(name: str, buffer: Buffer) -> memoryview:
+    """A view that counts in bytes, as the library does."""
+    view = whole_view(name, buffer)
+    return view if view.itemsize == 1 and view.ndim == 1 else view.cast('B')
 
 
 class Lent(NamedTuple):
@@ -235,17 +343,19 @@ def written(name: str, buffer: Written) -> Lent:
 NOTHING = (ctypes.c_ubyte * 1)()
 
 
-def call(function: ctypes._CFuncPtr, *lent: Lent) -> int:
-    """Calls a function of the header with pointer and length of each buffer."""
+def call(function: ctypes._CFuncPtr, *lent: Lent, number: Optional[int] = None) -> int:
+    """Calls a function of the header with pointer and length of each buffer, and behind them the number, if it takes one."""
     for i, one in enumerate(lent):
         for other in lent[:i]:
             if one.overlaps(other):
                 raise ValueError(f'{other.name} and {one.name} overlap')
-    return function(*(argument for one in lent for argument in (one.array, one.length)))
+    numbers = () if number is None else (number,)
+    return function(*(argument for one in lent for argument in (one.array, one.length)), *numbers)
 
 
-# For each function how many buffers it takes.
-FUNCTIONS = {'malquindo_open': 2, 'malquindo_command': 4, 'malquindo_move': 3}
+# For each function how many buffers it takes, and what it takes behind them.
+FUNCTIONS = {'malquindo_open': (2, []), 'malquindo_command': (4, []), 'malquindo_move': (3, []),
+             'malquindo_file': (1, [ctypes.c_uint16]), 'malquindo_certificate': (2, [ctypes.c_uint8])}
 
 
 @functools.lru_cache(maxsize=None)
@@ -254,9 +364,9 @@ def library() -> ctypes.PyDLL:
     loaded = ctypes.PyDLL(str(shared_object()))
     loaded.malquindo_session_len.argtypes = []
     loaded.malquindo_session_len.restype = ctypes.c_size_t
-    for name, buffers in FUNCTIONS.items():
+    for name, (buffers, numbers) in FUNCTIONS.items():
         function = getattr(loaded, name)
-        function.argtypes = [ctypes.POINTER(ctypes.c_ubyte), ctypes.c_size_t] * buffers
+        function.argtypes = [ctypes.POINTER(ctypes.c_ubyte), ctypes.c_size_t] * buffers + numbers
         function.restype = ctypes.c_uint64
     return loaded
 

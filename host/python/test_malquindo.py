@@ -14,7 +14,7 @@ import unittest
 sys.dont_write_bytecode = True     # no files beside the module
 sys.path.insert(0, str(pathlib.Path(__file__).resolve().parent))
 import malquindo
-from malquindo import Refusal
+from malquindo import Holder, Refusal
 
 ALL_RIGHTS = b'\xFF' * malquindo.RIGHTS_LEN
 TRAVEL = [(0x0101, 40), (0x0102, 40), (0x011A, 40)]
@@ -102,6 +102,8 @@ class Empty(Case):
         self.answers(malquindo.malquindo_open(b'', bytearray()), Refusal.BAD_RIGHTS)
         self.answers(malquindo.malquindo_command(bytearray(), bytearray(), b'', bytearray()), Refusal.SHORT_BUFFER)
         self.assertEqual(malquindo.malquindo_move(b'', b'', bytearray()), 0)
+        self.assertEqual(malquindo.malquindo_file(b'', 0x011A), 0)
+        self.answers(malquindo.malquindo_certificate(b'', b'', 1), Refusal.BAD_CERTIFICATES)
 
 
 class Short(Case):
@@ -249,9 +251,107 @@ class Moves(Case):
             self.assertRaises(ValueError, malquindo.move_card, b'', wrong)
 
 
+class Files(Case):
+    def test_where_they_stand(self):
+        self.assertEqual([malquindo.file(self.image, kind) for kind, _ in TRAVEL], [(6, 40), (52, 40), (98, 40)])
+        # Kinds that this card has not; the id of a file; numbers that no file has.
+        for kind in (0x0203, 0x0401, 0x0103, 0, 0xFFFF):
+            self.assertIsNone(malquindo.file(self.image, kind))
+
+    def test_no_card_has_no_files(self):
+        for image in (b'', self.image[:-1], self.image[1:], bytes(138)):
+            self.assertIsNone(malquindo.file(image, 0x011A))
+
+    def test_the_longest_image(self):
+        half = malquindo.IMAGE_LEN // 2 - 6
+        image = malquindo.move_card(b'', [(0x0203, half), (0x021A, half)])
+        self.assertEqual(malquindo.file(image, 0x021A), (half + 12, half))
+
+    def test_any_buffer(self):
+        for image in (bytes(self.image), memoryview(self.image).toreadonly(), memoryview(array.array('H', bytes(self.image)))):
+            self.assertEqual(malquindo.file(image, 0x011A), (98, 40))
+
+    def test_wrong_kinds(self):
+        for wrong in ('011A', b'\x01\x1A', 1.0, None):
+            self.assertRaises(TypeError, malquindo.file, self.image, wrong)
+        for wrong in (-1, 0x1011A):
+            self.assertRaises(ValueError, malquindo.file, self.image, wrong)
+        self.assertRaises(TypeError, malquindo.file, 'image', 0x011A)
+
+
+class Certificates(Case):
+    ONE = bytes.fromhex('0100 0100 A1')
+    TWO = bytes.fromhex('0200 0100 B1 0200 B2B2 EE')    # and a free byte
+    NONE = bytes(2)
+
+    def test_the_card_comes_before_the_desk(self):
+        self.assertEqual(malquindo.certificate(self.ONE, self.TWO, 1), (Holder.CARD, b'\xA1'))
+        self.assertEqual(malquindo.certificate(self.TWO, self.ONE, 1), (Holder.CARD, b'\xB1'))
+        self.assertEqual(malquindo.certificate(self.ONE, self.TWO, 2), (Holder.DESK, b'\xB2\xB2'))
+        self.assertEqual(malquindo.certificate(self.NONE, self.ONE, 1), (Holder.DESK, b'\xA1'))
+        self.assertEqual(malquindo.certificate(self.TWO, self.TWO, 2), (Holder.CARD, b'\xB2\xB2'))
+
+    def test_missing(self):
+        full = bytes([254, 0]) + bytes([1, 0, 7]) * 254
+        for card in (self.NONE, self.ONE, full):
+            for reference in (0x00, 0xFF):
+                self.assertIsNone(malquindo.certificate(card, full, reference))
+                self.assertEqual(malquindo.malquindo_certificate(card, full, reference), 0)
+            self.assertIsNone(malquindo.certificate(card, self.NONE, 0xFF))
+        self.assertIsNone(malquindo.certificate(self.ONE, self.TWO, 3))
+
+    def test_refused(self):
+        for damaged in (b'', b'\x00', b'\xFF\x00', self.ONE[:-1], bytes([1, 0, 0, 0]), bytes([1, 0, 0xA2, 3]) + bytes(930)):
+            for reference in (0, 1, 255):
+                for card, desk in ((damaged, self.ONE), (self.ONE, damaged), (damaged, damaged)):
+                    self.refused(Refusal.BAD_CERTIFICATES, malquindo.certificate, card, desk, reference)
+                    self.answers(malquindo.malquindo_certificate(card, desk, reference), Refusal.BAD_CERTIFICATES)
+
+    def test_the_last_of_the_longest(self):
+        full = bytes([254, 0]) + (bytes([0xA1, 3]) + bytes(929)) * 254
+        result = malquindo.malquindo_certificate(self.NONE, full, 254)
+        self.assertEqual((malquindo.malquindo_certificate_which(result), malquindo.malquindo_certificate_place(result),
+                          malquindo.malquindo_certificate_length(result)), (2, len(full) - 929, 929))
+        # A body may be longer than any image.
+        self.assertEqual(malquindo.malquindo_certificate(self.NONE, full + bytes(malquindo.IMAGE_LEN), 254), result)
+
+    def test_a_view_is_no_copy(self):
+        card, desk = bytearray(self.ONE), bytearray(self.TWO)
+        on_card, at_desk = malquindo.certificate(card, desk, 1), malquindo.certificate(card, desk, 2)
+        card[4], desk[8] = 0xA7, 0xB8
+        self.assertEqual((bytes(on_card.data), bytes(at_desk.data)), (b'\xA7', b'\xB2\xB8'))
+        self.assertIs(malquindo.certificate(self.ONE, desk, 1).data.obj, self.ONE)
+
+    def test_of_a_card(self):
+        malquindo.command(self.image, self.session, SELECT)
+        malquindo.command(self.image, self.session, bytes.fromhex('00E200D0037F21C1'))
+        place, length = malquindo.file(self.image, 0x011A)
+        body = memoryview(self.image)[place:place + length]
+        found = malquindo.certificate(body, self.NONE, 1)
+        self.assertEqual((str(found), found.data.obj), ('CARD 7F21C1', self.image))
+        # Later certificates leave it as it is.
+        malquindo.command(self.image, self.session, bytes.fromhex('00E200D0037F21C2'))
+        self.assertEqual((found.data, str(malquindo.certificate(body, self.NONE, 2))), (b'\x7F\x21\xC1', 'CARD 7F21C2'))
+
+    def test_a_body_counts_in_bytes(self):
+        pairs = memoryview(array.array('H', self.TWO))
+        self.assertEqual(malquindo.certificate(pairs, self.NONE, 2), (Holder.CARD, b'\xB2\xB2'))
+        foreign = memoryview(ctypes.create_string_buffer(self.TWO, len(self.TWO)))
+        self.assertEqual(bytes(malquindo.certificate(self.NONE, foreign, 2).data), b'\xB2\xB2')
+
+    def test_wrong_arguments(self):
+        for wrong in ('00', 7, None, [0, 0]):
+            self.assertRaises(TypeError, malquindo.certificate, wrong, self.NONE, 1)
+            self.assertRaises(TypeError, malquindo.certificate, self.NONE, wrong, 1)
+        for wrong in ('1', b'\x01', 1.0, None):
+            self.assertRaises(TypeError, malquindo.certificate, self.NONE, self.NONE, wrong)
+        for wrong in (-1, 256, 257):
+            self.assertRaises(ValueError, malquindo.certificate, self.NONE, self.NONE, wrong)
+
+
 class Refusals(Case):
     def test_the_numbers(self):
-        self.assertEqual(sorted(Refusal), [1, 2, 3, 4, 10, 11, 12, 13])
+        self.assertEqual(sorted(Refusal), [1, 2, 3, 4, 9, 10, 11, 12, 13])
         self.assertEqual(malquindo.accept(0x29000), 0x29000)
         self.assertEqual(set(malquindo.REASONS), set(Refusal))
         self.assertEqual(malquindo.Refused(99).refusal, 99)

@@ -1,5 +1,5 @@
-// The machine for C and for what links like C. include/malquindo.h declares these functions. Every function takes any bytes; what it is
-// lent must not overlap.
+// The machine for C and for what links like C. include/malquindo.h declares these functions. Every function takes any bytes; what it
+// writes must not overlap anything else that it is lent.
 use machine_apdu::status::NORMAL;
 use machine_session::Refusal;
 use machine_session::Session;

@@ -1,4 +1,4 @@
-//! The calls to time: card, session and command; card and rooms.
+//! The calls to time: card, session and command; card and rooms; bodies of certificates.
 
 use compare::make::{self, Apdu, LONGEST_IMAGE, RULES};
 use compare::random::Random;
@@ -293,6 +293,29 @@ pub fn move_to_the_same_sizes() -> Move {
             .to_string(),
         list: make::list(&rows),
         old,
+    }
+}
+
+/// Two bodies of certificates, and the reference of one on the card.
+pub struct Certificate {
+    pub name: String,
+    pub held: String,
+    pub card: Vec<u8>,
+    pub desk: Vec<u8>,
+    pub reference: u8,
+}
+
+/// The last certificate of a body that is as long as its records can make it. The desk has as
+/// many, and all are looked through before the answer.
+pub fn last_certificate() -> Certificate {
+    let rule = make::travel_certificates();
+    let full = make::records(&vec![vec![7; rule.longest]; rule.most]);
+    Certificate {
+        name: "certificate FE".to_string(),
+        held: "254 certificates of 929 bytes on the card, as many at the desk".to_string(),
+        desk: full.clone(),
+        card: full,
+        reference: rule.most as u8,
     }
 }
 

@@ -17,6 +17,7 @@ fn main() {
     times();
     growth();
     move_times();
+    certificate_times();
     stack_use();
 }
 
@@ -94,14 +95,17 @@ fn print_row(case: &Case) -> Times {
 
 fn print_named(name: &str, case: &Case) -> Times {
     let times = time::measure(case);
+    print_times(name, &case.held, times);
+    times
+}
+
+fn print_times(name: &str, held: &str, times: Times) {
     println!(
-        "| {name} | {} | {:.3} | {:.3} | {:.2} |",
-        case.held,
+        "| {name} | {held} | {:.3} | {:.3} | {:.2} |",
         times.proved / 1_000.0,
         times.reference / 1_000.0,
         times.proved / times.reference
     );
-    times
 }
 
 fn print_per_byte(name: &str, times: Times) {
@@ -158,6 +162,15 @@ fn move_times() {
         times.copy / 1_000.0,
         times.proved / times.copy
     );
+}
+
+/// The last certificate of a full body.
+fn certificate_times() {
+    println!("\n| row | what the buffers held | proved (µs) | reference (µs) | ratio |");
+    println!("|---|---|---|---|---|");
+    let case = cases::last_certificate();
+    let times = time::measure_certificate(&case);
+    print_times(&case.name, &case.held, times);
 }
 
 fn stack_use() {

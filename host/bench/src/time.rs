@@ -1,6 +1,6 @@
 //! Timing one call of each implementation, in turns.
 
-use crate::cases::{Case, Move};
+use crate::cases::{Case, Certificate, Move};
 use compare::sides::{Machine, PROVED, REFERENCE};
 use std::time::{Duration, Instant};
 
@@ -50,6 +50,14 @@ pub fn measure_move(case: &Move) -> MoveTimes {
         reference,
         copy,
     }
+}
+
+/// Both implementations on the same bodies of certificates, alternating.
+pub fn measure_certificate(case: &Certificate) -> Times {
+    let mut proved = Bench::new(FindCertificate::new(case, &PROVED), false);
+    let mut reference = Bench::new(FindCertificate::new(case, &REFERENCE), false);
+    let [proved, reference] = in_turns([&mut proved, &mut reference], BUDGET);
+    Times { proved, reference }
 }
 
 /// The median of each one's samples.
@@ -140,6 +148,29 @@ impl Work for MoveCard<'_> {
 
     fn call(&mut self) -> u64 {
         (self.machine.move_card)(&self.case.old, &self.case.list, &mut self.target)
+    }
+}
+
+/// One implementation's certificate.
+struct FindCertificate<'a> {
+    case: &'a Certificate,
+    machine: &'a Machine,
+}
+
+impl<'a> FindCertificate<'a> {
+    fn new(case: &'a Certificate, machine: &'a Machine) -> Self {
+        let mut work = Self { case, machine };
+        assert_eq!(work.call() >> 28, 1, "{}", case.name);
+        work
+    }
+}
+
+impl Work for FindCertificate<'_> {
+    fn reset(&mut self) {}
+
+    fn call(&mut self) -> u64 {
+        let Certificate { card, desk, .. } = self.case;
+        (self.machine.certificate)(card, desk, self.case.reference)
     }
 }
 

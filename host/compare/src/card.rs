@@ -196,6 +196,22 @@ pub fn damaged(random: &mut Random, image: &[u8], size: Size) -> Vec<u8> {
     bytes
 }
 
+/// A kind to ask for: one that the image has, one that an image may have, or none of these: a
+/// file's id, a kind beside those of the rules, any number.
+pub fn kind(random: &mut Random, image: &[u8]) -> u16 {
+    let parts = view::sections(image);
+    match random.below(10) {
+        0..=4 if !parts.is_empty() => parts[random.below(parts.len())].0,
+        5 => make::BIOMETRICS_KIND + random.between(0, 65) as u16,
+        6 => random.pick(&[0x0103, 0x0205, 0x2F00, 0x2F01, 0x3F00]),
+        7 => random.pick(&[
+            0x0000, 0x0001, 0x0100, 0x001A, 0x1A01, 0x0301, 0x041A, 0xFFFF,
+        ]),
+        8 => random.draw() as u16,
+        _ => RULES[random.below(RULES.len())].kind,
+    }
+}
+
 /// Another card, with one thing as large as it may be, or one larger.
 fn at_the_limit(random: &mut Random) -> Vec<u8> {
     let large = &RULES[random.below(RULES.len())];

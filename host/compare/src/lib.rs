@@ -5,8 +5,8 @@
 //! - [`make`]: the bytes of images, data objects and commands;
 //! - [`view`]: what an image and a session hold;
 //! - [`step`]: one step of a run, and what a side holds between two steps;
-//! - [`card`], [`rights`], [`objects`], [`command`], [`moving`]: made-up images, rights and
-//!   sessions, data objects, commands and moves;
+//! - [`card`], [`rights`], [`objects`], [`command`], [`moving`], [`certificates`]: made-up images,
+//!   rights and sessions, data objects, commands, moves, and bodies of certificates;
 //! - [`scene`]: the calls that every run begins with;
 //! - [`sequence`]: the calls, in sequences on one card each;
 //! - [`talk`]: commands for one card, each with the library's answer;
@@ -17,6 +17,7 @@
 #![forbid(unsafe_code)]
 
 pub mod card;
+pub mod certificates;
 pub mod command;
 pub mod hex;
 pub mod make;

@@ -31,6 +31,11 @@ pub static RULES: [Rule; 6] = [
     rule(0x031A, 0x011A, 929, 64),
 ];
 
+/// The rule of the bodies that a stamp's certificate is taken from.
+pub fn travel_certificates() -> &'static Rule {
+    &RULES[2]
+}
+
 /// The first kind and id of a biometrics file are one above these.
 pub const BIOMETRICS_KIND: u16 = 0x0400;
 pub const BIOMETRICS_ID: u16 = 0x0200;

@@ -6,6 +6,7 @@ use crate::hex::hex;
 use crate::sequence::Sequence;
 use crate::step::{State, Step};
 use crate::tally::Tally;
+use std::ops::RangeInclusive;
 
 /// The seed of the sample that is kept as data.
 pub const SEED: u64 = 93_034;
@@ -31,26 +32,26 @@ impl Sample {
                 break;
             }
             sample.stdin.extend(stdin);
-            for (line, step, result) in lines {
-                sample.stdout.push_str(&line);
-                sample.tally.step(&step, result);
+            for (text, step, results) in lines {
+                sample.stdout.push_str(&text);
+                sample.tally.step(&step, &results);
             }
         }
         sample
     }
 }
 
-/// A line of output, the call and its result.
-type Line = (String, Step, u64);
+/// A line of output for each call of a step, the step, and the results of the calls.
+type Lines = (String, Step, Vec<u64>);
 
-fn one_sequence(seed: u64, number: u64) -> (Vec<u8>, Vec<Line>) {
+fn one_sequence(seed: u64, number: u64) -> (Vec<u8>, Vec<Lines>) {
     let mut sequence = Sequence::new(seed, number, Size::Small);
     let mut state = State::default();
     let mut stdin = Vec::new();
     let mut lines = Vec::new();
     while let Some(step) = sequence.next(&state) {
         encode(&step, &mut stdin);
-        let line = match &step {
+        let text = match &step {
             Step::Image(image) => {
                 state.image.clone_from(image);
                 continue;
@@ -68,8 +69,16 @@ fn one_sequence(seed: u64, number: u64) -> (Vec<u8>, Vec<Line>) {
                 command,
             } => run(&mut state, *response_len, command),
             Step::Move { target_len, list } => move_card(&mut state, *target_len, list),
+            Step::File(kind) => find_file(&mut state, *kind),
+            Step::Certificates {
+                card,
+                desk,
+                first,
+                last,
+            } => find_certificates(&mut state, card, desk, *first..=*last),
         };
-        lines.push((line, step, state.result));
+        let results = state.results(&step).to_vec();
+        lines.push((text, step, results));
     }
     (stdin, lines)
 }
@@ -97,7 +106,39 @@ fn move_card(state: &mut State, target_len: usize, list: &[u8]) -> String {
     format!("{} {}\n", state.result, fnv(&target))
 }
 
-/// A case: 1 image, 2 session, 3 open, 4 command, 5 move; lengths are little-endian.
+/// Finds a file and says which bytes of the image it has.
+fn find_file(state: &mut State, kind: u16) -> String {
+    let result = reference::file(&state.image, kind);
+    state.answers = vec![result];
+    let (place, length) = ((result >> 32) as usize, result as u32 as usize);
+    format!("{result} {}\n", fnv(&state.image[place..place + length]))
+}
+
+/// Finds certificates and says which bytes each has.
+fn find_certificates(
+    state: &mut State,
+    card: &[u8],
+    desk: &[u8],
+    references: RangeInclusive<u8>,
+) -> String {
+    state.answers = references
+        .map(|reference| reference::certificate(card, desk, reference))
+        .collect();
+    let answers = state.answers.iter();
+    answers.fold(String::new(), |text, result| {
+        let (place, length) = ((result >> 10 & 0x3FFFF) as usize, (result & 0x3FF) as usize);
+        let body = match result >> 28 {
+            1 => card,
+            2 => desk,
+            // Missing or refused: place and length are 0.
+            _ => &[],
+        };
+        text + &format!("{result} {}\n", hex(&body[place..place + length]))
+    })
+}
+
+/// A case: 1 image, 2 session, 3 open, 4 command, 5 move, 6 file, 7 certificates; numbers are
+/// little-endian.
 fn encode(step: &Step, bytes: &mut Vec<u8>) {
     match step {
         Step::Image(image) => {
@@ -129,6 +170,22 @@ fn encode(step: &Step, bytes: &mut Vec<u8>) {
             bytes.extend((*target_len as u32).to_le_bytes());
             bytes.extend((list.len() as u16).to_le_bytes());
             bytes.extend(list);
+        }
+        Step::File(kind) => {
+            bytes.push(6);
+            bytes.extend(kind.to_le_bytes());
+        }
+        Step::Certificates {
+            card,
+            desk,
+            first,
+            last,
+        } => {
+            bytes.extend([7, *first, *last]);
+            for body in [card, desk] {
+                bytes.extend((body.len() as u32).to_le_bytes());
+                bytes.extend(body);
+            }
         }
     }
 }

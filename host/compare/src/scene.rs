@@ -1,11 +1,16 @@
 //! The calls that every run begins with: a card with the travel application, moved to larger
-//! rooms and on to others, with commands before and behind each move, and each refusal of a move.
+//! rooms and on to others, with commands before and behind each move, and each refusal of a move;
+//! then files to find, and certificates to find in bodies of each sort.
 
+use crate::hex::hex;
 use crate::make::{self, Apdu, LONGEST_IMAGE, RIGHTS_LEN, SESSION_LEN, SHORTEST_RESPONSE};
 use crate::step::Step;
+use std::ops::RangeInclusive;
 
 /// A step and what comes of it: a command's answer in hexadecimal; `refusal` and its number, or
-/// how many bytes the new image has; nothing for what is no call, and for the opening.
+/// how many bytes the new image has; how many bytes a file has and where, or `none`; of each
+/// certificate the body that has it, its place there and its bytes, or `missing`, or `refusal 9`,
+/// with a comma between them; nothing for what is no call, and for the opening.
 pub type Line = (Step, String);
 
 const ENTRY: u16 = 0x0101;
@@ -32,6 +37,12 @@ pub fn lines() -> Vec<Line> {
         an_activated_file_moved(),
         the_longest_card(),
         bad_and_empty_cards(),
+        files(),
+        no_files(),
+        every_reference(),
+        the_cards_before_the_desks(),
+        damaged_bodies(),
+        bodies_at_the_border(),
     ]
     .concat()
 }
@@ -61,6 +72,32 @@ fn moved(rows: &[(u16, usize)], more: usize) -> Line {
 /// A move that is refused though the target has room enough.
 fn refused(rows: &[(u16, usize)], number: u8) -> Line {
     moves(make::list(rows), 400, &format!("refusal {number}"))
+}
+
+fn file(kind: u16, outcome: &str) -> Line {
+    (Step::File(kind), outcome.to_string())
+}
+
+/// The certificates of these references, and what comes of each.
+fn certificates(
+    card: &[u8],
+    desk: &[u8],
+    references: RangeInclusive<u8>,
+    outcome: impl Fn(u8) -> String,
+) -> Line {
+    let outcomes: Vec<String> = references.clone().map(outcome).collect();
+    let step = Step::Certificates {
+        card: card.to_vec(),
+        desk: desk.to_vec(),
+        first: *references.start(),
+        last: *references.end(),
+    };
+    (step, outcomes.join(", "))
+}
+
+/// Refusal 9 for each of these references.
+fn refused_bodies(card: &[u8], desk: &[u8], references: RangeInclusive<u8>) -> Line {
+    certificates(card, desk, references, |_| "refusal 9".to_string())
 }
 
 fn select(application: u8) -> Line {
@@ -256,5 +293,170 @@ fn bad_and_empty_cards() -> Vec<Line> {
         moves(vec![], 3, "0 bytes"),
         moved(&certificates, 0),
         moves(vec![], 3, "refusal 11"),
+    ]
+}
+
+/// Seven files, one behind the other, each behind six bytes of its section. Certificates that are
+/// appended do not move them.
+fn files() -> Vec<Line> {
+    vec![
+        moved(&[(BIOMETRICS_CERTIFICATES, 20)], 0),
+        file(BIOMETRICS_CERTIFICATES, "20 bytes at 6"),
+        file(ENTRY, "none"),
+        moved(&all(20, 21), 0),
+        file(ENTRY, "60 bytes at 6"),
+        file(EXIT, "30 bytes at 72"),
+        file(TRAVEL_CERTIFICATES, "40 bytes at 108"),
+        file(VISAS, "60 bytes at 154"),
+        file(VISA_CERTIFICATES, "2 bytes at 220"),
+        file(BIOMETRICS_CERTIFICATES, "20 bytes at 228"),
+        file(BIOMETRICS_5, "21 bytes at 254"),
+        (Step::Session(vec![0; SESSION_LEN]), String::new()),
+        (Step::Open(vec![0xFF; RIGHTS_LEN]), String::new()),
+        select(1),
+        append(0x1A, &USA, "9000"),
+        file(TRAVEL_CERTIFICATES, "40 bytes at 108"),
+        file(VISAS, "60 bytes at 154"),
+    ]
+}
+
+/// Kinds that the card has not, and images that are not well formed.
+fn no_files() -> Vec<Line> {
+    // Ids of files that the card has, and numbers beside its kinds.
+    let others = [
+        0x0103, 0x0205, 0x2F00, 0x0000, 0x0100, 0x0400, 0x0404, 0x0406, 0x1A01, 0xFFFF,
+    ];
+    let empty = make::records::<&[u8]>(&[]);
+    let travel = [ENTRY, EXIT, TRAVEL_CERTIFICATES].map(|kind| make::section(kind, &empty));
+    let not_whole = travel[..2].concat();
+    let mut miscounted = travel.concat();
+    miscounted[6] = 1;
+    let mut lines: Vec<Line> = others.map(|kind| file(kind, "none")).to_vec();
+    lines.extend([
+        card(travel.concat()),
+        file(TRAVEL_CERTIFICATES, "2 bytes at 22"),
+        card(not_whole),
+        file(ENTRY, "none"),
+        card(miscounted),
+        file(ENTRY, "none"),
+        file(TRAVEL_CERTIFICATES, "none"),
+        card(vec![]),
+        file(ENTRY, "none"),
+        file(0x0000, "none"),
+    ]);
+    lines
+}
+
+/// A body whose certificates are one byte, their number. Certificate n stands at 3 * n + 1.
+fn cards_body(count: u8) -> Vec<u8> {
+    let records: Vec<[u8; 1]> = (1..=count).map(|n| [n]).collect();
+    make::records(&records)
+}
+
+/// A body whose certificates are DE and their number. Certificate n stands at 4 * n.
+fn desks_body(count: u8) -> Vec<u8> {
+    let records: Vec<[u8; 2]> = (1..=count).map(|n| [0xDE, n]).collect();
+    make::records(&records)
+}
+
+/// All references, with so many certificates on the card and so many at the desk.
+fn of_all_references(card: u8, desk: u8) -> Line {
+    certificates(
+        &cards_body(card),
+        &desks_body(desk),
+        0x00..=0xFF,
+        |n| match usize::from(n) {
+            0 | 255 => "missing".to_string(),
+            at if n <= card => format!("card {} {n:02x}", 3 * at + 1),
+            at if n <= desk => format!("desk {} de{n:02x}", 4 * at),
+            _ => "missing".to_string(),
+        },
+    )
+}
+
+fn every_reference() -> Vec<Line> {
+    // The same bodies the other way round, and one beside itself.
+    let (one, other) = (cards_body(254), desks_body(254));
+    let last = ["card 1012 defd", "card 1016 defe", "missing"];
+    let outcome = |n| last[usize::from(n - 0xFD)].to_string();
+    vec![
+        of_all_references(254, 254),
+        certificates(&other, &one, 0xFD..=0xFF, outcome),
+        certificates(&other, &other, 0xFD..=0xFF, outcome),
+        of_all_references(3, 254),
+        of_all_references(0, 0),
+    ]
+}
+
+/// The certificate that was appended to the card before, and a desk with two others.
+fn the_cards_before_the_desks() -> Vec<Line> {
+    let mut one = make::records(&[USA]);
+    one.resize(40, 0);
+    let two = make::records(&[FRA, FRA]);
+    let ask = |card, desk, first: &str, second: &str| {
+        let outcomes = ["missing", first, second, "missing"];
+        certificates(card, desk, 0x00..=0x03, |n| {
+            outcomes[usize::from(n)].to_string()
+        })
+    };
+    let (usa, fra) = (hex(&USA), hex(&FRA));
+    let (first, second) = (format!("card 4 {fra}"), format!("card 12 {fra}"));
+    vec![
+        ask(
+            &one,
+            &two,
+            &format!("card 4 {usa}"),
+            &format!("desk 12 {fra}"),
+        ),
+        ask(&two, &one, &first, &second),
+        ask(&[0, 0], &one, &format!("desk 4 {usa}"), "missing"),
+    ]
+}
+
+/// Each way to be damaged, on the card, at the desk and on both sides. The other body has the
+/// certificate.
+fn damaged_bodies() -> Vec<Line> {
+    let one = make::records(&[USA]);
+    let (overfull, too_long) = (cards_body(255), make::records(&[[7; 930]]));
+    let bodies: [&[u8]; 9] = [
+        // No count, half of one, one of 256, one of a record that is not there.
+        &[],
+        &[0],
+        &[0, 1],
+        &[1, 0],
+        // Half a length, a length of 0, a record that leaves the body by one byte.
+        &[1, 0, 1],
+        &[1, 0, 0, 0],
+        &one[..one.len() - 1],
+        &overfull,
+        &too_long,
+    ];
+    let good = cards_body(2);
+    bodies
+        .iter()
+        .flat_map(|damaged| {
+            [
+                refused_bodies(damaged, &good, 0x00..=0x03),
+                refused_bodies(&good, damaged, 0x00..=0x03),
+                refused_bodies(damaged, damaged, 0x01..=0x01),
+            ]
+        })
+        .collect()
+}
+
+/// What is just not damaged: the longest certificate, and free bytes that look like one more.
+fn bodies_at_the_border() -> Vec<Line> {
+    let longest = make::records(&[[7; 929]]);
+    let free = [&cards_body(1)[..], &[1, 0, 2]].concat();
+    let ask = |card, desk, reference, outcome: &str| {
+        certificates(card, desk, reference..=reference, |_| outcome.to_string())
+    };
+    let bytes = "07".repeat(929);
+    vec![
+        ask(&longest, &[0, 0], 0x01, &format!("card 4 {bytes}")),
+        ask(&[0, 0], &longest, 0x01, &format!("desk 4 {bytes}")),
+        ask(&free, &desks_body(1), 0x02, "missing"),
+        ask(&desks_body(1), &free, 0x02, "missing"),
+        ask(&free, &desks_body(2), 0x02, "desk 8 de02"),
     ]
 }

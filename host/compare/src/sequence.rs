@@ -2,6 +2,7 @@
 //! commands left.
 
 use crate::card::{self, Size};
+use crate::certificates;
 use crate::command;
 use crate::make::{SESSION_LEN, SHORTEST_RESPONSE};
 use crate::moving;
@@ -22,7 +23,7 @@ pub struct Sequence {
     session: Option<Vec<u8>>,
     /// The image as the commands left it, once damage begins.
     image: Option<Vec<u8>>,
-    /// Whether the last call was a move, which says nothing about the session.
+    /// Whether the result at hand is that of a move, which says nothing about the session.
     moved: bool,
 }
 
@@ -111,15 +112,18 @@ impl Sequence {
             5..=9 if self.size == Size::Any || self.random.one_in(4) => {
                 self.plan_move(&state.image);
             }
+            10..=12 if self.size == Size::Any || self.random.one_in(3) => {
+                self.plan_certificates(&state.image);
+            }
+            13..=14 => self.plan_file(&state.image),
             _ => self.plan_command(&view, &state.image),
         }
     }
 
     /// The session to go on with. One that was refused gives way to the last that was not.
     fn good_session(&mut self, state: &State) -> Vec<u8> {
-        let moved = std::mem::take(&mut self.moved);
         match (&self.session, state.refusal()) {
-            (Some(_), _) if moved => state.session.clone(),
+            (Some(_), _) if self.moved => state.session.clone(),
             (Some(session), 3 | 4) => {
                 self.pending.push_back(Step::Session(session.clone()));
                 session.clone()
@@ -134,6 +138,7 @@ impl Sequence {
     }
 
     fn plan_open(&mut self) {
+        self.moved = false;
         let rights = match self.random.below(3) {
             0 => rights::no_chain(&mut self.random),
             _ => rights::chain(&mut self.random),
@@ -142,6 +147,7 @@ impl Sequence {
     }
 
     fn plan_command(&mut self, view: &View, image: &[u8]) {
+        self.moved = false;
         let response_len = match self.random.below(60) {
             0 => self.random.pick(&[0, 1, 2, 256, SHORTEST_RESPONSE - 1]),
             1 => self.random.between(0, SHORTEST_RESPONSE - 1),
@@ -162,17 +168,32 @@ impl Sequence {
         self.pending.push_back(step);
     }
 
-    /// A damaged image in place of the card's, and one call on it: a command, or a move to rooms
-    /// for what can still be seen of it or for what it was.
+    /// A file to find in the image.
+    fn plan_file(&mut self, image: &[u8]) {
+        let kind = card::kind(&mut self.random, image);
+        self.pending.push_back(Step::File(kind));
+    }
+
+    /// Certificates to find, in the image's body of them or in a made-up one.
+    fn plan_certificates(&mut self, image: &[u8]) {
+        let step = certificates::step(&mut self.random, image, self.size);
+        self.pending.push_back(step);
+    }
+
+    /// A damaged image in place of the card's, and one step on it: a command; a file or
+    /// certificates to find; or a move to rooms for what can still be seen of it or for what it
+    /// was.
     fn plan_damage(&mut self, state: &State) {
         let session = self.good_session(state);
         let image = self.image.get_or_insert_with(|| state.image.clone());
         let damaged = card::damaged(&mut self.random, image, self.size);
         let image = image.clone();
         self.pending.push_back(Step::Image(damaged.clone()));
-        match self.random.below(8) {
+        match self.random.below(10) {
             0 => self.plan_move(&damaged),
             1 => self.plan_move(&image),
+            2 => self.plan_file(&damaged),
+            3 => self.plan_certificates(&damaged),
             _ => self.plan_command(&View::new(&damaged, &session), &damaged),
         }
     }

@@ -14,24 +14,34 @@ pub type Open = fn(&[u8], &mut [u8]) -> u64;
 pub type Command = fn(&mut [u8], &mut [u8], &[u8], &mut [u8]) -> u64;
 /// A move: old image, list, target.
 pub type MoveCard = fn(&[u8], &[u8], &mut [u8]) -> u64;
+/// Where a file stands: image, kind.
+pub type File = fn(&[u8], u16) -> u64;
+/// The certificate that a stamp names: the card's body, the desk's, reference.
+pub type Certificate = fn(&[u8], &[u8], u8) -> u64;
 
 /// One implementation.
 pub struct Machine {
     pub open: Open,
     pub command: Command,
     pub move_card: MoveCard,
+    pub file: File,
+    pub certificate: Certificate,
 }
 
 pub const PROVED: Machine = Machine {
     open: malquindo_sys::open,
     command: malquindo_sys::command,
     move_card: malquindo_sys::move_card,
+    file: malquindo_sys::file,
+    certificate: malquindo_sys::certificate,
 };
 
 pub const REFERENCE: Machine = Machine {
     open: reference::open,
     command: reference::command,
     move_card: reference::move_card,
+    file: reference::file,
+    certificate: reference::certificate,
 };
 
 /// All that a call may change.
@@ -73,10 +83,11 @@ pub fn compare_machines(
         let mut sequence = Sequence::new(seed, number, Size::Any);
         let mut step_number = 0;
         sides.start();
-        while let Some(step) = sequence.next(&sides.reference.state) {
+        while let Some(mut step) = sequence.next(&sides.reference.state) {
             if tally.calls() == calls {
                 return Ok(tally);
             }
+            step.shorten(calls - tally.calls());
             sides.prepare(&step, &mut fill);
             sides.proved.run(&step, proved);
             sides.reference.run(&step, reference);
@@ -91,7 +102,7 @@ pub fn compare_machines(
                     reference: sides.reference,
                 }));
             }
-            tally.step(&step, sides.reference.state.result);
+            tally.step(&step, sides.reference.state.results(&step));
             sides.go_on(&step);
             step_number += 1;
         }
@@ -134,7 +145,12 @@ impl Sides {
                 proved.target.clone_from(&before.target);
                 reference.target.clone_from(&before.target);
             }
-            Step::Image(_) | Step::Session(_) | Step::Open(_) => {}
+            // These have no buffer to fill.
+            Step::Image(_)
+            | Step::Session(_)
+            | Step::Open(_)
+            | Step::File(_)
+            | Step::Certificates { .. } => {}
         }
         let held = &reference.state;
         before.state.image.clone_from(&held.image);
@@ -158,6 +174,7 @@ impl Outcome {
             image,
             session,
             result,
+            answers,
         } = &mut self.state;
         match step {
             Step::Image(new) => image.clone_from(new),
@@ -168,6 +185,16 @@ impl Outcome {
             }
             Step::Move { list, .. } => {
                 *result = (machine.move_card)(image, list, &mut self.target);
+            }
+            Step::File(kind) => *answers = vec![(machine.file)(image, *kind)],
+            Step::Certificates {
+                card,
+                desk,
+                first,
+                last,
+            } => {
+                let certificate = |reference| (machine.certificate)(card, desk, reference);
+                *answers = (*first..=*last).map(certificate).collect();
             }
         }
     }
@@ -184,6 +211,11 @@ impl fmt::Display for Difference {
             Step::Open(rights) => writeln!(f, "open     {}", hex(rights))?,
             Step::Command { command, .. } => writeln!(f, "command  {}", hex(command))?,
             Step::Move { list, .. } => writeln!(f, "move     {}", hex(list))?,
+            Step::File(kind) => writeln!(f, "file     {kind:04X}")?,
+            Step::Certificates { card, desk, .. } => {
+                writeln!(f, "card     {}", hex(card))?;
+                writeln!(f, "desk     {}", hex(desk))?;
+            }
             Step::Image(_) | Step::Session(_) => writeln!(f, "no call")?,
         }
         self.side(f, "BEFORE", &self.before)?;
@@ -194,28 +226,55 @@ impl fmt::Display for Difference {
 
 impl Difference {
     fn side(&self, f: &mut fmt::Formatter<'_>, name: &str, outcome: &Outcome) -> fmt::Result {
-        let State {
-            image,
-            session,
-            result,
-        } = &outcome.state;
-        let (refusal, low) = (result >> 32, *result as u32);
-        let (length, status) = (low >> 16, low & 0xFFFF);
-        match &self.step {
-            _ if name == "BEFORE" => {}
-            Step::Move { .. } => {
-                writeln!(f, "{name} result {result}: refusal {refusal}, length {low}")?;
-            }
-            _ => writeln!(
-                f,
-                "{name} result {result}: refusal {refusal}, length {length}, status {status:04X}"
-            )?,
+        let State { image, session, .. } = &outcome.state;
+        if name != "BEFORE" {
+            self.results(f, name, &outcome.state)?;
         }
         writeln!(f, "{name} session  {}", hex(session))?;
         match &self.step {
             Step::Move { .. } => writeln!(f, "{name} target   {}", hex(&outcome.target))?,
+            Step::File(_) | Step::Certificates { .. } => {}
             _ => writeln!(f, "{name} response {}", hex(&outcome.response))?,
         }
         writeln!(f, "{name} image    {}", hex(image))
     }
+
+    /// The parts of the results; of certificates, where the two sides differ.
+    fn results(&self, f: &mut fmt::Formatter<'_>, name: &str, state: &State) -> fmt::Result {
+        let result = state.result;
+        let (refusal, low) = (result >> 32, result as u32);
+        let (length, status) = (low >> 16, low & 0xFFFF);
+        match &self.step {
+            Step::Move { .. } => {
+                writeln!(f, "{name} result {result}: refusal {refusal}, length {low}")
+            }
+            Step::File(_) => state.answers.iter().try_for_each(|result| {
+                let (place, length) = (result >> 32, *result as u32);
+                writeln!(f, "{name} result {result}: place {place}, length {length}")
+            }),
+            Step::Certificates { first, last, .. } => (*first..=*last)
+                .zip(&state.answers)
+                .filter(|(reference, _)| self.differs(usize::from(reference - first)))
+                .try_for_each(|(reference, result)| certificate(f, name, reference, *result)),
+            _ => writeln!(
+                f,
+                "{name} result {result}: refusal {refusal}, length {length}, status {status:04X}"
+            ),
+        }
+    }
+
+    /// Whether the two sides differ in the answer at this place.
+    fn differs(&self, at: usize) -> bool {
+        self.proved.state.answers.get(at) != self.reference.state.answers.get(at)
+    }
+}
+
+fn certificate(f: &mut fmt::Formatter<'_>, name: &str, reference: u8, result: u64) -> fmt::Result {
+    let (refusal, which) = (result >> 32, result >> 28 & 0xF);
+    let (place, length) = (result >> 10 & 0x3FFFF, result & 0x3FF);
+    writeln!(
+        f,
+        "{name} reference {reference:02X} result {result}: \
+         refusal {refusal}, which {which}, place {place}, length {length}"
+    )
 }

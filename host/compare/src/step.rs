@@ -15,6 +15,25 @@ pub enum Step {
         target_len: usize,
         list: Vec<u8>,
     },
+    /// Where the body of this kind stands in the image.
+    File(u16),
+    /// The certificate of each reference from `first` to `last`, both included: as many calls.
+    Certificates {
+        card: Vec<u8>,
+        desk: Vec<u8>,
+        first: u8,
+        last: u8,
+    },
+}
+
+impl Step {
+    /// Leaves no more than so many calls, which are not 0.
+    pub fn shorten(&mut self, calls: u64) {
+        if let Self::Certificates { first, last, .. } = self {
+            let end = u64::from(*first) + calls - 1;
+            *last = end.min(u64::from(*last)) as u8;
+        }
+    }
 }
 
 /// What one side holds.
@@ -22,8 +41,11 @@ pub enum Step {
 pub struct State {
     pub image: Vec<u8>,
     pub session: Vec<u8>,
-    /// The result of the last call.
+    /// The result of the last opening, command or move.
     pub result: u64,
+    /// The results of the last step that changes nothing: one of a file, as many of certificates
+    /// as there are references.
+    pub answers: Vec<u64>,
 }
 
 impl State {
@@ -35,6 +57,17 @@ impl State {
     pub fn take_moved(&mut self, target: &[u8]) {
         if self.refusal() == 0 {
             self.image = target[..self.result as usize].to_vec();
+        }
+    }
+
+    /// The results of the calls of this step, which was the last.
+    pub fn results(&self, step: &Step) -> &[u64] {
+        match step {
+            Step::Image(_) | Step::Session(_) => &[],
+            Step::Open(_) | Step::Command { .. } | Step::Move { .. } => {
+                std::slice::from_ref(&self.result)
+            }
+            Step::File(_) | Step::Certificates { .. } => &self.answers,
         }
     }
 }

@@ -1,7 +1,9 @@
 //! How often each outcome occurred.
 
 use crate::command::NAMES;
+use crate::make;
 use crate::step::Step;
+use crate::view;
 use std::collections::BTreeMap;
 use std::fmt;
 
@@ -19,6 +21,11 @@ const SEARCH_STATUSES: [u16; 6] = [0x9000, 0x6282, 0x6700, 0x6981, 0x6982, 0x6A8
 /// What a move may be refused with.
 pub const MOVE_REFUSALS: [u64; 5] = [2, 10, 11, 12, 13];
 
+/// What may come of a reference.
+const CERTIFICATES: [&str; 4] = ["refusal 9", "missing", "card", "desk"];
+/// What the body of certificates may be like that a reference is looked up in.
+const FORMS: [&str; 4] = ["damaged", "empty", "full", "other"];
+
 /// Where a command belongs that is none of the eight by its first two bytes.
 const OTHER: usize = NAMES.len();
 
@@ -35,15 +42,35 @@ pub struct Tally {
     refusals: [u64; 5],
     /// Moves by refusal, 0 for those that were done.
     moved: BTreeMap<u64, u64>,
+    /// Files that were not there, and those that were.
+    files: [u64; 2],
+    /// References by what came of them (its place in [`CERTIFICATES`]).
+    certificates: [u64; 4],
+    /// Steps with references, by the card's body and the desk's (their places in [`FORMS`]).
+    bodies: [[u64; 4]; 4],
+    /// Calls by reference, without those that were refused.
+    references: BTreeMap<u8, u64>,
 }
 
 impl Tally {
     pub fn calls(&self) -> u64 {
-        self.commands + self.opens + self.moves
+        let files: u64 = self.files.iter().sum();
+        let certificates: u64 = self.certificates.iter().sum();
+        self.commands + self.opens + self.moves + files + certificates
     }
 
-    /// Counts a step by its result; an image or a session is no call.
-    pub fn step(&mut self, step: &Step, result: u64) {
+    /// Counts a step by the results of its calls; an image or a session has none.
+    pub fn step(&mut self, step: &Step, results: &[u64]) {
+        if let Step::Certificates { card, desk, .. } = step {
+            self.bodies[form(card)][form(desk)] += 1;
+        }
+        for (at, result) in results.iter().enumerate() {
+            self.call(step, at, *result);
+        }
+    }
+
+    /// Counts one call of a step.
+    fn call(&mut self, step: &Step, at: usize, result: u64) {
         match step {
             Step::Open(_) => {
                 self.opens += 1;
@@ -54,8 +81,20 @@ impl Tally {
                 self.moves += 1;
                 *self.moved.entry(result >> 32).or_default() += 1;
             }
+            Step::File(_) => self.files[usize::from(result != 0)] += 1,
+            Step::Certificates { first, .. } => self.certificate(first + at as u8, result),
             Step::Image(_) | Step::Session(_) => {}
         }
+    }
+
+    fn certificate(&mut self, reference: u8, result: u64) {
+        if result >> 32 != 0 {
+            self.certificates[0] += 1;
+            return;
+        }
+        let which = (result >> 28) as usize;
+        self.certificates[1 + which] += 1;
+        *self.references.entry(reference).or_default() += 1;
     }
 
     fn command(&mut self, command: &[u8], result: u64) {
@@ -98,7 +137,8 @@ impl Tally {
 
     /// What occurred too seldom: each status, each refusal, 9000 of each command, 9000 of a
     /// search by an id and by either spelling of a short id, 6981 of the last two, 6A82 of a search by
-    /// another byte, moves done.
+    /// another byte, moves done, files found and not, what comes of a reference, bodies that are
+    /// damaged, empty or full, each of the 256 references.
     pub fn missing(&self, each: u64, done: u64) -> Vec<String> {
         let statuses = STATUSES
             .iter()
@@ -131,9 +171,46 @@ impl Tally {
             .chain(searches)
             .chain(moves)
             .chain(moved)
+            .chain(self.wanted_files_and_certificates(each, done))
             .filter(|(_, count, wanted)| count < wanted)
             .map(|(what, count, wanted)| format!("{what}: {count} times, {wanted} wanted"))
             .collect()
+    }
+
+    /// What is counted of files and certificates, how often it occurred and how often it should.
+    fn wanted_files_and_certificates(&self, each: u64, done: u64) -> Vec<(String, u64, u64)> {
+        let [absent, found] = self.files;
+        let mut wanted = vec![
+            ("files not found".to_string(), absent, done),
+            ("files found".to_string(), found, done),
+        ];
+        for (what, count) in CERTIFICATES.iter().zip(self.certificates) {
+            wanted.push((format!("certificates, {what}"), count, done));
+        }
+        for (at, form) in FORMS.iter().enumerate() {
+            let card = self.bodies[at].iter().sum();
+            let desk = self.bodies.iter().map(|desks| desks[at]).sum();
+            wanted.push((format!("the card's body {form}"), card, each));
+            wanted.push((format!("the desk's body {form}"), desk, each));
+            wanted.push((format!("both bodies {form}"), self.bodies[at][at], each));
+        }
+        for reference in 0x00..=0xFF {
+            let count = self.references.get(&reference).copied().unwrap_or(0);
+            wanted.push((format!("reference {reference:02X}"), count, 1));
+        }
+        wanted
+    }
+}
+
+/// What a body of certificates is like, as a place in [`FORMS`].
+fn form(body: &[u8]) -> usize {
+    // The other body is well formed, so that a refusal is this one's.
+    let damaged = reference::certificate(body, &[0, 0], 1) >> 32 != 0;
+    match view::certificates(body).len() {
+        _ if damaged => 0,
+        0 => 1,
+        count if count == make::travel_certificates().most => 2,
+        _ => 3,
     }
 }
 
@@ -178,7 +255,10 @@ impl fmt::Display for Tally {
             moves,
             ..
         } = self;
-        writeln!(f, "{commands} commands, {opens} openings, {moves} moves\n")?;
+        let files: u64 = self.files.iter().sum();
+        let certificates: u64 = self.certificates.iter().sum();
+        write!(f, "{commands} commands, {opens} openings, {moves} moves, ")?;
+        writeln!(f, "{files} files, {certificates} certificates\n")?;
         write!(f, "| status |")?;
         let names = NAMES.iter().map(|(_, name, ..)| *name);
         for name in names.chain(["other", "all"]) {
@@ -217,6 +297,33 @@ impl fmt::Display for Tally {
         for number in MOVE_REFUSALS {
             writeln!(f, "| refusal {number} | {} |", self.moved(number))?;
         }
-        Ok(())
+        self.show_files_and_certificates(f)
+    }
+}
+
+impl Tally {
+    fn show_files_and_certificates(&self, f: &mut fmt::Formatter<'_>) -> fmt::Result {
+        let [absent, found] = self.files;
+        writeln!(f, "\n| file | times |\n|---|---|")?;
+        writeln!(f, "| found | {found} |\n| not found | {absent} |")?;
+        writeln!(f, "\n| certificate | times |\n|---|---|")?;
+        for (what, count) in CERTIFICATES.iter().zip(self.certificates) {
+            writeln!(f, "| {what} | {count} |")?;
+        }
+        writeln!(f, "\n| the card's body | desk's {} |", FORMS.join(" | "))?;
+        writeln!(f, "|---|---|---|---|---|")?;
+        for (form, desks) in FORMS.iter().zip(self.bodies) {
+            writeln!(
+                f,
+                "| {form} | {} |",
+                desks.map(|n| n.to_string()).join(" | ")
+            )?;
+        }
+        let (asked, seldom) = (self.references.len(), self.references.values().min());
+        let seldom = seldom.copied().unwrap_or(0);
+        writeln!(
+            f,
+            "\n{asked} of 256 references, each {seldom} times or more"
+        )
     }
 }

@@ -152,6 +152,12 @@ pub fn rooms(image: &[u8]) -> Vec<Room> {
     sections(image).into_iter().map(room).collect()
 }
 
+/// Where the certificates lie in a body of travel certificates.
+pub fn certificates(body: &[u8]) -> Vec<Range<usize>> {
+    let file = record_file(body, make::travel_certificates(), 0..body.len());
+    file.records().to_vec()
+}
+
 fn constant(id: u16, short_id: u8, size: usize) -> File {
     File {
         application: 0,

@@ -1,11 +1,13 @@
-//! The four functions of `include/malquindo.h`, declared as they stand there, and the same
-//! functions on slices ([`open`], [`command`], [`move_card`]), which are safe to call.
+//! The six functions of `include/malquindo.h`, declared as they stand there, and the same
+//! functions on slices ([`open`], [`command`], [`move_card`], [`file`](fn@file) and
+//! [`certificate`]), which are safe to call.
 //!
 //! Most callers want the crate `malquindo`, which has types for sessions, answers and refusals.
 //!
 //! What the caller of a function in C owes, and nothing checks: each pointer is to as many bytes
-//! as its length says, valid for reading and, where it is `*mut`, for writing; no two arguments of
-//! one call overlap; no pointer is null, even where the length is 0. No function keeps a pointer.
+//! as its length says, valid for reading and, where it is `*mut`, for writing; no argument that is
+//! written overlaps another; no pointer is null, even where the length is 0. No function keeps a
+//! pointer.
 
 #![no_std]
 
@@ -42,6 +44,20 @@ extern "C" {
         list_len: usize,
         target: *mut u8,
         target_len: usize,
+    ) -> u64;
+
+    /// Where the body of a file stands in an image. The result is place * 2^32 + length; 0 where
+    /// there is no such file.
+    pub fn malquindo_file(image: *const u8, image_len: usize, kind: u16) -> u64;
+
+    /// The certificate that a stamp names. The result is refusal * 2^32 + which * 2^28 +
+    /// place * 2^10 + length.
+    pub fn malquindo_certificate(
+        card: *const u8,
+        card_len: usize,
+        desk: *const u8,
+        desk_len: usize,
+        reference: u8,
     ) -> u64;
 }
 
@@ -95,6 +111,27 @@ pub fn move_card(old: &[u8], list: &[u8], target: &mut [u8]) -> u64 {
             list.len(),
             target.as_mut_ptr(),
             target.len(),
+        )
+    }
+}
+
+/// `malquindo_file` on a slice of any length.
+pub fn file(image: &[u8], kind: u16) -> u64 {
+    // SAFETY: pointer and length are those of a slice, which is never null; nothing is written.
+    unsafe { malquindo_file(image.as_ptr(), image.len(), kind) }
+}
+
+/// `malquindo_certificate` on slices of any length.
+pub fn certificate(card: &[u8], desk: &[u8], reference: u8) -> u64 {
+    // SAFETY: pointers and lengths are those of slices, which are never null; nothing is written,
+    // so slices that overlap do no harm.
+    unsafe {
+        malquindo_certificate(
+            card.as_ptr(),
+            card.len(),
+            desk.as_ptr(),
+            desk.len(),
+            reference,
         )
     }
 }

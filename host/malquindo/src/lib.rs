@@ -32,11 +32,13 @@
 //! # Ok::<(), malquindo::Refusal>(())
 //! ```
 //!
-//! [`move_card`] writes a card anew, with other rooms.
+//! [`move_card`] writes a card anew, with other rooms. [`file`](fn@file) finds a file's body in an
+//! image, and [`certificate`] the certificate that a stamp names.
 
 #![forbid(unsafe_code)]
 
 use std::fmt;
+use std::ops::Range;
 
 /// How many bytes a session has.
 pub const SESSION_LEN: usize = 25;
@@ -71,6 +73,8 @@ pub enum Refusal {
     BadRights,
     /// 4: the session does not fit the image, or its bytes are malformed.
     BadSession,
+    /// 9: the card's body or the desk's is no well-formed body of travel certificates.
+    BadCertificates,
     /// 10: the list of rooms lays out no valid image.
     BadList,
     /// 11: the list has no room for a file of the old card.
@@ -92,6 +96,7 @@ impl Refusal {
             Self::BadImage => 2,
             Self::BadRights => 3,
             Self::BadSession => 4,
+            Self::BadCertificates => 9,
             Self::BadList => 10,
             Self::MissingKind => 11,
             Self::SmallRoom => 12,
@@ -108,6 +113,7 @@ impl Refusal {
             2 => Self::BadImage,
             3 => Self::BadRights,
             4 => Self::BadSession,
+            9 => Self::BadCertificates,
             10 => Self::BadList,
             11 => Self::MissingKind,
             12 => Self::SmallRoom,
@@ -124,6 +130,7 @@ impl fmt::Display for Refusal {
             Self::BadImage => "the image is not well formed",
             Self::BadRights => "the rights are not 60 bytes",
             Self::BadSession => "the session does not fit the image, or is malformed",
+            Self::BadCertificates => "a body of travel certificates is not well formed",
             Self::BadList => "the list of rooms lays out no valid image",
             Self::MissingKind => "a file of the old card has no room in the list",
             Self::SmallRoom => "a room is too small for its content",
@@ -220,6 +227,88 @@ fn list(rooms: &[(u16, u32)]) -> Vec<u8> {
     rooms.iter().flat_map(row).collect()
 }
 
+/// Where the body of a file stands in a card image; none where the image has no such file, or is
+/// not well formed.
+///
+/// The kind is that of the section, such as 0x011A for travel certificates. Commands move no
+/// body, so the place stays good until the card is moved.
+///
+/// ```
+/// let mut image = [0; 138];
+/// let rooms = [(0x0101, 40), (0x0102, 40), (0x011A, 40)];
+/// malquindo::move_card(&[], &rooms, &mut image)?;
+/// assert_eq!(malquindo::file(&image, 0x011A), Some(98..138));
+/// assert_eq!(malquindo::file(&image, 0x0203), None);
+/// # Ok::<(), malquindo::Refusal>(())
+/// ```
+pub fn file(image: &[u8], kind: u16) -> Option<Range<usize>> {
+    let result = malquindo_sys::file(image, kind);
+    let (place, length) = ((result >> 32) as usize, result as u32 as usize);
+    // A body stands behind its section's first six bytes, so 0 is the place of none.
+    (result != 0).then(|| place..place + length)
+}
+
+/// Whose body a certificate is in.
+#[derive(Clone, Copy, Debug, PartialEq, Eq)]
+pub enum Holder {
+    Card,
+    Desk,
+}
+
+/// A certificate that a stamp names.
+#[derive(Clone, Copy, Debug, PartialEq, Eq)]
+pub struct Certificate<'a> {
+    pub holder: Holder,
+    /// The part of that body that is the certificate.
+    pub bytes: &'a [u8],
+}
+
+/// The certificate that a stamp names: the record of this number in the card's body of travel
+/// certificates; where the card has none, in the desk's body; else none.
+///
+/// The card's body is that of the file 0x011A. The desk's is one of the same form that the caller
+/// keeps; with no certificate it is two zero bytes. No record has the number 0x00 or 0xFF.
+///
+/// A card with one certificate, and a desk's copy with one more:
+///
+/// ```
+/// use malquindo::{Certificate, Holder};
+///
+/// let mut image = [0; 138];
+/// let rooms = [(0x0101, 40), (0x0102, 40), (0x011A, 40)];
+/// malquindo::move_card(&[], &rooms, &mut image)?;
+/// let body = malquindo::file(&image, 0x011A).expect("the card has this file");
+/// // One certificate of two bytes: the count, its length, its bytes.
+/// image[body.start..][..6].copy_from_slice(&[1, 0, 2, 0, 0xC1, 0xC1]);
+///
+/// let card = &image[body];
+/// let desk = [2, 0, 2, 0, 0xC1, 0xC1, 1, 0, 0xC2];
+/// let (holder, bytes) = (Holder::Card, &card[4..6]);
+/// let first = malquindo::certificate(card, &desk, 0x01)?;
+/// assert_eq!(first, Some(Certificate { holder, bytes }));
+/// let (holder, bytes) = (Holder::Desk, &desk[8..]);
+/// let second = malquindo::certificate(card, &desk, 0x02)?;
+/// assert_eq!(second, Some(Certificate { holder, bytes }));
+/// assert_eq!(malquindo::certificate(card, &desk, 0x03)?, None);
+/// # Ok::<(), malquindo::Refusal>(())
+/// ```
+pub fn certificate<'a>(
+    card: &'a [u8],
+    desk: &'a [u8],
+    reference: u8,
+) -> Result<Option<Certificate<'a>>, Refusal> {
+    let low = accepted(malquindo_sys::certificate(card, desk, reference))?;
+    let (holder, body) = match low >> 28 {
+        0 => return Ok(None),
+        1 => (Holder::Card, card),
+        2 => (Holder::Desk, desk),
+        other => panic!("body {other} has the certificate, which is not known here"),
+    };
+    let (place, length) = ((low >> 10 & 0x3FFFF) as usize, (low & 0x3FF) as usize);
+    let bytes = &body[place..place + length];
+    Ok(Some(Certificate { holder, bytes }))
+}
+
 #[cfg(test)]
 mod tests {
     use super::*;
@@ -250,7 +339,7 @@ mod tests {
         for number in 1..20 {
             let refusal = accepted(u64::from(number) << 32).unwrap_err();
             assert_eq!(refusal.number(), number);
-            let known = matches!(number, 1..=4 | 10..=13);
+            let known = matches!(number, 1..=4 | 9..=13);
             assert_eq!(refusal == Refusal::Unknown(number), !known);
         }
     }
@@ -291,5 +380,93 @@ mod tests {
         assert_eq!(target, [0xA5; 13]);
         let new = move_card(&held, &rooms, &mut target).unwrap();
         assert_eq!(new, [7, 0, 0, 0, 0x1A, 0x03, 1, 0, 1, 0, 7, 0, 0]);
+    }
+
+    /// One certificate of one byte; two, with a free byte behind them; none.
+    static ONE: [u8; 5] = [1, 0, 1, 0, 0xA1];
+    static TWO: [u8; 10] = [2, 0, 1, 0, 0xB1, 2, 0, 0xB2, 0xB2, 0xEE];
+    static NONE: [u8; 2] = [0, 0];
+
+    #[test]
+    fn where_a_file_stands() {
+        let image = [&[5, 0, 0, 0, 0x1A, 0x03][..], &ONE].concat();
+        assert_eq!(file(&image, 0x031A), Some(6..11));
+        assert_eq!(image[file(&image, 0x031A).unwrap()], ONE);
+        assert_eq!(file(&image, 0x011A), None);
+        assert_eq!(file(&image[..10], 0x031A), None);
+        assert_eq!(file(&[], 0x031A), None);
+        // The longest image: place and length are where they belong.
+        let rooms = [(0x0203, 131_066), (0x021A, 131_066)];
+        let mut longest = vec![0; 262_144];
+        move_card(&[], &rooms, &mut longest).unwrap();
+        assert_eq!(file(&longest, 0x0203), Some(6..131_072));
+        assert_eq!(file(&longest, 0x021A), Some(131_078..262_144));
+    }
+
+    #[test]
+    fn refused_certificates() {
+        for damaged in [&[][..], &[0], &[0xFF, 0], &ONE[..4], &[1, 0, 0, 0]] {
+            let copy = damaged.to_vec();
+            for reference in 0x00..=0xFF {
+                let refused = Err(Refusal::BadCertificates);
+                assert_eq!(certificate(damaged, &ONE, reference), refused);
+                assert_eq!(certificate(&ONE, damaged, reference), refused);
+                assert_eq!(certificate(damaged, &copy, reference), refused);
+            }
+        }
+    }
+
+    #[test]
+    fn missing_certificates() {
+        for reference in [0x00, 0x03, 0xFE, 0xFF] {
+            assert_eq!(certificate(&TWO, &ONE, reference), Ok(None));
+            assert_eq!(certificate(&ONE, &TWO, reference), Ok(None));
+        }
+        assert_eq!(certificate(&NONE, &[0, 0], 0x01), Ok(None));
+        // Even where both have as many as a body may have.
+        let full = [&[254, 0][..], &[1, 0, 7].repeat(254)].concat();
+        let copy = full.clone();
+        for reference in 0x00..=0xFF {
+            let missing = certificate(&full, &copy, reference) == Ok(None);
+            assert_eq!(missing, matches!(reference, 0x00 | 0xFF));
+        }
+    }
+
+    /// Whose the certificate is, and where its bytes lie in memory: a copy would lie elsewhere.
+    fn found(card: &[u8], desk: &[u8], reference: u8) -> (Holder, Range<*const u8>) {
+        let certificate = certificate(card, desk, reference).unwrap().unwrap();
+        (certificate.holder, certificate.bytes.as_ptr_range())
+    }
+
+    fn on_card(part: &[u8]) -> (Holder, Range<*const u8>) {
+        (Holder::Card, part.as_ptr_range())
+    }
+
+    fn at_desk(part: &[u8]) -> (Holder, Range<*const u8>) {
+        (Holder::Desk, part.as_ptr_range())
+    }
+
+    #[test]
+    fn the_card_comes_before_the_desk() {
+        let copy = TWO;
+        assert_eq!(found(&ONE, &TWO, 1), on_card(&ONE[4..]));
+        assert_eq!(found(&TWO, &ONE, 1), on_card(&TWO[4..5]));
+        assert_eq!(found(&TWO, &copy, 2), on_card(&TWO[7..9]));
+    }
+
+    #[test]
+    fn what_the_card_has_not_the_desk_may_have() {
+        assert_eq!(found(&ONE, &TWO, 2), at_desk(&TWO[7..9]));
+        assert_eq!(found(&NONE, &TWO, 1), at_desk(&TWO[4..5]));
+    }
+
+    /// The last of 254 certificates of 929 bytes stands as far behind as one can.
+    #[test]
+    fn the_largest_place_and_length() {
+        let one = [&[0xA1, 0x03][..], &[7; 929]].concat();
+        let full = [&[254, 0][..], &one.repeat(254)].concat();
+        let last = &full[full.len() - 929..];
+        assert_eq!(found(&full, &NONE, 0xFE), on_card(last));
+        assert_eq!(found(&NONE, &full, 0xFE), at_desk(last));
     }
 }
