@@ -40,6 +40,8 @@ static int certificate(uint8_t reference)
 {
     static const uint8_t desk[] = {2, 0, 3, 0, 0x7F, 0x21, 0xC1, 3, 0, 0x7F, 0x21, 0xC2}; /* two certificates of 3 bytes */
     uint64_t file = malquindo_file(larger, sizeof larger, 0x011A);
+    if (file == 0) /* no such file, or no card */
+        return 1;
     const uint8_t *card = larger + malquindo_file_place(file);
     uint64_t result = malquindo_certificate(card, malquindo_file_length(file), desk, sizeof desk, reference);
     size_t place = malquindo_certificate_place(result), length = malquindo_certificate_length(result);

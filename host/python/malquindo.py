@@ -51,7 +51,8 @@ malquindo_certificate are the functions of the header themselves: they take ever
 that a test can lend a buffer that is too short.
 
 Buffers are bytes, bytearray or memoryview. One that is written, such as the image, is no bytes object. Each length is that of the buffer;
-a type that does not fit is a TypeError, and two buffers that overlap are a ValueError. So no call can do harm, whatever it is given.
+a type that does not fit is a TypeError, and two buffers that are written and overlap are a ValueError. What is only read is copied first. So
+no call can do harm, whatever it is given.
 """
 from __future__ import annotations
 
@@ -64,7 +65,7 @@ import subprocess
 import sys
 from typing import Iterable, NamedTuple, Optional, Tuple, Union
 
-__all__ = ['RIGHTS_LEN', 'SESSION_LEN', 'RESPONSE_LEN', 'IMAGE_LEN', 'Refusal', 'Refused', 'Answer', 'Holder', 'Certificate',
+__all__ = ['RIGHTS_LEN', 'SESSION_LEN', 'RESPONSE_LEN', 'IMAGE_LEN', 'Refusal', 'Refused', 'Answer', 'Source', 'Certificate',
            'open', 'command', 'move_card', 'file', 'certificate',
            'malquindo_session_len', 'malquindo_open', 'malquindo_command', 'malquindo_move', 'malquindo_file', 'malquindo_certificate',
            'malquindo_refusal', 'malquindo_length', 'malquindo_status', 'malquindo_moved', 'malquindo_file_place', 'malquindo_file_length',
@@ -131,7 +132,7 @@ class Answer(NamedTuple):
         return f'{self.data.hex().upper()} {self.status:04X}'.lstrip()
 
 
-class Holder(enum.IntEnum):
+class Source(enum.IntEnum):
     """Whose body a certificate is in. The numbers are those of the header."""
     CARD = 1
     DESK = 2
@@ -139,11 +140,11 @@ class Holder(enum.IntEnum):
 
 class Certificate(NamedTuple):
     """A certificate that a stamp names: whose body it is in, and the part of that body that it is."""
-    holder: Holder
+    source: Source
     data: memoryview
 
     def __str__(self) -> str:
-        return f'{self.holder.name} {self.data.hex().upper()}'
+        return f'{self.source.name} {self.data.hex().upper()}'
 
 
 def open(rights: Buffer) -> bytearray:
@@ -191,10 +192,10 @@ def certificate(card: Buffer, desk: Buffer, reference: int) -> Optional[Certific
     result = accept(malquindo_certificate(card, desk, reference))
     if not result:
         return None
-    holder = Holder(malquindo_certificate_which(result))
-    body = byte_view('card', card) if holder is Holder.CARD else byte_view('desk', desk)
+    source = Source(malquindo_certificate_which(result))
+    body = byte_view('card', card) if source is Source.CARD else byte_view('desk', desk)
     place = malquindo_certificate_place(result)
-    return Certificate(holder, body[place:place + malquindo_certificate_length(result)])
+    return Certificate(source, body[place:place + malquindo_certificate_length(result)])
 
 
 def malquindo_session_len() -> int:

@@ -14,7 +14,7 @@ import unittest
 sys.dont_write_bytecode = True     # no files beside the module
 sys.path.insert(0, str(pathlib.Path(__file__).resolve().parent))
 import malquindo
-from malquindo import Holder, Refusal
+from malquindo import Source, Refusal
 
 ALL_RIGHTS = b'\xFF' * malquindo.RIGHTS_LEN
 TRAVEL = [(0x0101, 40), (0x0102, 40), (0x011A, 40)]
@@ -285,11 +285,11 @@ class Certificates(Case):
     NONE = bytes(2)
 
     def test_the_card_comes_before_the_desk(self):
-        self.assertEqual(malquindo.certificate(self.ONE, self.TWO, 1), (Holder.CARD, b'\xA1'))
-        self.assertEqual(malquindo.certificate(self.TWO, self.ONE, 1), (Holder.CARD, b'\xB1'))
-        self.assertEqual(malquindo.certificate(self.ONE, self.TWO, 2), (Holder.DESK, b'\xB2\xB2'))
-        self.assertEqual(malquindo.certificate(self.NONE, self.ONE, 1), (Holder.DESK, b'\xA1'))
-        self.assertEqual(malquindo.certificate(self.TWO, self.TWO, 2), (Holder.CARD, b'\xB2\xB2'))
+        self.assertEqual(malquindo.certificate(self.ONE, self.TWO, 1), (Source.CARD, b'\xA1'))
+        self.assertEqual(malquindo.certificate(self.TWO, self.ONE, 1), (Source.CARD, b'\xB1'))
+        self.assertEqual(malquindo.certificate(self.ONE, self.TWO, 2), (Source.DESK, b'\xB2\xB2'))
+        self.assertEqual(malquindo.certificate(self.NONE, self.ONE, 1), (Source.DESK, b'\xA1'))
+        self.assertEqual(malquindo.certificate(self.TWO, self.TWO, 2), (Source.CARD, b'\xB2\xB2'))
 
     def test_missing(self):
         full = bytes([254, 0]) + bytes([1, 0, 7]) * 254
@@ -335,7 +335,7 @@ class Certificates(Case):
 
     def test_a_body_counts_in_bytes(self):
         pairs = memoryview(array.array('H', self.TWO))
-        self.assertEqual(malquindo.certificate(pairs, self.NONE, 2), (Holder.CARD, b'\xB2\xB2'))
+        self.assertEqual(malquindo.certificate(pairs, self.NONE, 2), (Source.CARD, b'\xB2\xB2'))
         foreign = memoryview(ctypes.create_string_buffer(self.TWO, len(self.TWO)))
         self.assertEqual(bytes(malquindo.certificate(self.NONE, foreign, 2).data), b'\xB2\xB2')
 

@@ -36,7 +36,7 @@ CANNOT = "! this line cannot be read, and nothing is changed: "
 TOO_LONG = "! this line is longer than 65,536 bytes, and nothing is changed"
 OPENED = "= session opened"
 MOVED = "= moved to a new file"
-NO_CERTIFICATES = "! refused (9): there is no well-formed body of travel certificates on the card or in the copy"
+NO_CERTIFICATES = "! refused (9): the card or the copy has no well-formed body of travel certificates"
 
 # the longest line that is read, and more input than the room for an image has
 LINE = 65536

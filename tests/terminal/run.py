@@ -137,6 +137,21 @@ def test_status(folder):
     assert run(folder, b"", "one.card", "two.card")[0] == 2
 
 
+def test_certificates(folder):
+    """A missing certificate is an answer. A card or a copy without travel certificates is refused, and a copy that cannot be read is told."""
+    for name, content in cases.FILES.items():
+        write(folder, name, content)
+    assert run(folder, b"certificate 01", "try.card") == (0, "= certificate 01 is missing: it is not on the card\n", "")
+    assert run(folder, b"certificate 02", "desk.card") == (0, "= certificate 02 is on the card: D2 D2\n", "")
+    refused = cases.NO_CERTIFICATES + "\n"
+    for line in (b"certificate 01", b"certificate 00", b"certificate FF", b"certificate 01 desk.card"):
+        assert run(folder, line, "visa.only") == (1, "", refused), line
+    assert run(folder, b"certificate 01 visa.only", "desk.card") == (1, "", refused)
+    os.mkdir(os.path.join(folder, "folder"))
+    assert run(folder, b"certificate 01 folder", "desk.card") == (1, "", "! the card's file cannot be used: folder: Is a directory\n")
+    assert all(read(folder, name) == content for name, content in cases.FILES.items())
+
+
 def test_no_card(folder):
     """What cannot be used is named, with the reason. No line is answered, and nothing is written."""
     os.mkdir(os.path.join(folder, "folder"))
@@ -335,7 +350,7 @@ def main():
     parser.add_argument("--seed", type=int, default=random.randrange(1 << 32))
     options = parser.parse_args()
     print(f"seed {options.seed}")
-    tests = [test_gate_cases, test_status, test_no_card, test_long, test_typed, test_kept, test_cut, test_script]
+    tests = [test_gate_cases, test_status, test_certificates, test_no_card, test_long, test_typed, test_kept, test_cut, test_script]
     for test in tests:
         with tempfile.TemporaryDirectory() as folder:
             test(folder)

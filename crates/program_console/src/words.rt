@@ -40,7 +40,7 @@ fn reason(number: u64) {
         3 => warn(b"! refused (3): rights are 60 bytes, three certificates of 20"),
         4 => warn(b"! refused (4): the session does not fit the card"),
         9 => warn(
-            b"! refused (9): there is no well-formed body of travel certificates on the card or in the copy",
+            b"! refused (9): the card or the copy has no well-formed body of travel certificates",
         ),
         10 => warn(b"! refused (10): these rooms make no well-formed card"),
         11 => warn(b"! refused (11): a file of the card has no room"),

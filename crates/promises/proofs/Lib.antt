@@ -15,5 +15,5 @@ pub mod Doing
 pub mod Fitting
 pub mod Linking
 pub mod Calling
-pub mod Certifying
+pub mod Certificates
 pub mod Promises

@@ -2,7 +2,7 @@
 use Rattle.promises.specs.Promises.{Says-no, Gets-word, Opens, Holds, Number-kept, Reads-history, Leaves-none-out, Only-searches, Search-refused, Both-spellings, Stays-accepted, Answer-fits, Opening-fits, Session-bytes, Opening-bytes, Result-whole, Move-says-no, Move-done, Same-sizes, Move-twice, Move-whole}
 use Rattle.promises.specs.Done.{Append-done, Update-done, Activate-done, Read-done, Select-done, Fmm-done}
 use Rattle.promises.specs.Linked.{C-sees, C-malformed, C-says-no, C-gets-word, C-holds, C-number-kept, C-reads-history, C-leaves-none-out, C-opens, C-moves}
-use Rattle.promises.specs.Certificates.{C-file, C-certifies, C-certificate-kept}
+use Rattle.promises.specs.Certificates.{C-file, C-file-stays, C-certificate, C-certificate-kept}
 use Rattle.promises.proofs.Keeping.{step-kept}
 use Rattle.promises.proofs.Opening.{opening-opened}
 use Rattle.store_move.proofs.Moves.{moveCard-numbered}
@@ -18,7 +18,7 @@ use Rattle.promises.proofs.Spelling as spelling
 use Rattle.promises.proofs.Fitting as fitting
 use Rattle.promises.proofs.Linking as linking
 use Rattle.promises.proofs.Calling as calling
-use Rattle.promises.proofs.Certifying as certifying
+use Rattle.promises.proofs.Certificates as certificates
 
 pub says-no : Says-no
 says-no = step-kept
@@ -132,10 +132,13 @@ pub c-moves : C-moves
 c-moves = calling.c-moves
 
 pub c-file : C-file
-c-file = certifying.c-file
+c-file = certificates.c-file
 
-pub c-certifies : C-certifies
-c-certifies = certifying.c-certifies
+pub c-file-stays : C-file-stays
+c-file-stays = certificates.c-file-stays
+
+pub c-certificate : C-certificate
+c-certificate = certificates.c-certificate
 
 pub c-certificate-kept : C-certificate-kept
-c-certificate-kept = certifying.c-certificate-kept
+c-certificate-kept = certificates.c-certificate-kept

@@ -8,9 +8,10 @@ use mathlib.Core.List.{List, [], _∷_, _++_, List·Memᴰ}
 use lib.ListN.{length}
 use Rattle.base.specs.Bytes.{part}
 use Rattle.store_records.specs.Body.{place, records, nth, bodyOk}
-use Rattle.store_image.specs.Image.{lenAt, kindAt, has, body, wellFormed}
+use Rattle.store_image.specs.Image.{lenAt, kindAt, find, has, body, wellFormed}
+use Rattle.store_image.specs.declared.Found.the-variants.{At}
 use Rattle.store_certificates.specs.Certificates.{located}
-use Rattle.malquindo.specs.Face.{fileResult, certificateResult}
+use Rattle.malquindo.specs.Face.{called, fileResult, certificateResult}
 use Rattle.promises.specs.Linked.{refusalIn, CCall, afterC, historyC}
 
 -- ---- results: `malquindo_file_place`, `malquindo_file_length`; `malquindo_certificate_which`, `…_place`, `…_length`
@@ -42,20 +43,26 @@ pub record FileC (img : List ℕ) (k r : ℕ) : Type 0 where
   -- 0 exactly where the file is not there, or the image is not well formed
   pub there-complete : wellFormed img ≡ true → has img k ≡ true → 1 ≤ r
   pub there-sound : 1 ≤ r → (wellFormed img ≡ true) × (has img k ≡ true)
-  -- place and length lie within the image, and are those of the body of kind k: its length and its kind stand in the six bytes before it
+  -- place and length are those of the section of kind k, within the image, and not of bytes elsewhere that look like it
+  pub stands : 1 ≤ r → find img k ≡ At (filePlaceIn r) (fileLengthIn r)
   pub within : filePlaceIn r + fileLengthIn r ≤ length img
   pub bytes : 1 ≤ r → part img (filePlaceIn r) (fileLengthIn r) ≡ body img k
-  pub head : 1 ≤ r → (lenAt img (filePlaceIn r - 6) ≡ fileLengthIn r) × (kindAt img (filePlaceIn r - 6) ≡ k)
+  -- the length and the kind stand in the six bytes before the body
+  pub head : 1 ≤ r → (6 ≤ filePlaceIn r) × (lenAt img (filePlaceIn r - 6) ≡ fileLengthIn r) × (kindAt img (filePlaceIn r - 6) ≡ k)
 
 -- [X11]
 abbrev pub C-file : Type 0
 C-file = (img : List ℕ) (k : ℕ) → FileC img k (fileResult img k)
 
+-- a command leaves every body where it is, and as long [X11]
+abbrev pub C-file-stays : Type 0
+C-file-stays = (img ses cmd buf : List ℕ) (k : ℕ) → wellFormed img ≡ true → fileResult (called img ses cmd buf .image) k ≡ fileResult img k
+
 -- ---- which certificate it is
 
 -- n is the number of a record of the body xs [P3]
-abbrev pub Numbers : List ℕ → ℕ → Type 0
-Numbers xs n = (1 ≤ n) × (n ≤ length (records xs))
+abbrev pub IsNumber : List ℕ → ℕ → Type 0
+IsNumber xs n = (1 ≤ n) × (n ≤ length (records xs))
 
 -- the bytes of a body that the result r tells [X12]
 unfoldable pub certificateBytes : List ℕ → ℕ → List ℕ
@@ -63,7 +70,7 @@ certificateBytes xs r = part xs (certificatePlaceIn r) (certificateLengthIn r)
 
 -- the result r tells where record n of the body xs stands [P5] [X12]
 pub record StandsC (xs : List ℕ) (n r : ℕ) : Type 0 where
-  pub there : Numbers xs n
+  pub there : IsNumber xs n
   -- behind the length of that record, and within the body
   pub behind : certificatePlaceIn r ≡ place xs (n - 1) + 2
   pub within : certificatePlaceIn r + certificateLengthIn r ≤ length xs
@@ -71,28 +78,28 @@ pub record StandsC (xs : List ℕ) (n r : ℕ) : Type 0 where
   pub bytes : certificateBytes xs r ≡ nth (records xs) n
 
 -- what the result r of `malquindo_certificate` tells, for any two bodies and the reference n [P2] [P3] [P4] [P6]
-pub record CertifiedC (card desk : List ℕ) (n r : ℕ) : Type 0 where
+pub record CertificateC (card desk : List ℕ) (n r : ℕ) : Type 0 where
   -- 9 exactly where one of the two is not well formed, with longest record 929 and most records 254; there is no other refusal
   pub refused-complete : (bodyOk 929 254 card && bodyOk 929 254 desk) ≡ false → r ≡ 9 * 4294967296
   pub refused-sound : 1 ≤ refusalIn r → (bodyOk 929 254 card && bodyOk 929 254 desk) ≡ false
   -- the card's, the desk's, or neither
   pub which-known : List·Memᴰ (whichIn r) (0 ∷ 1 ∷ 2 ∷ [])
   -- the card's exactly where the card's body has the number
-  pub card-complete : refusalIn r ≡ 0 → Numbers card n → whichIn r ≡ 1
+  pub card-complete : refusalIn r ≡ 0 → IsNumber card n → whichIn r ≡ 1
   pub card-sound : whichIn r ≡ 1 → StandsC card n r
   -- the desk's exactly where the desk's body has it and the card's has not
-  pub desk-complete : refusalIn r ≡ 0 → (Numbers card n → ⊥) → Numbers desk n → whichIn r ≡ 2
-  pub desk-sound : whichIn r ≡ 2 → (Numbers card n → ⊥) × StandsC desk n r
+  pub desk-complete : refusalIn r ≡ 0 → (IsNumber card n → ⊥) → IsNumber desk n → whichIn r ≡ 2
+  pub desk-sound : whichIn r ≡ 2 → (IsNumber card n → ⊥) × StandsC desk n r
   -- missing exactly where neither has it
-  pub missing-complete : refusalIn r ≡ 0 → (Numbers card n → ⊥) → (Numbers desk n → ⊥) → r ≡ 0
-  pub missing-sound : r ≡ 0 → (Numbers card n → ⊥) × (Numbers desk n → ⊥)
+  pub missing-complete : refusalIn r ≡ 0 → (IsNumber card n → ⊥) → (IsNumber desk n → ⊥) → r ≡ 0
+  pub missing-sound : r ≡ 0 → (IsNumber card n → ⊥) × (IsNumber desk n → ⊥)
   -- 00 and FF are always missing
   pub zero-missing : refusalIn r ≡ 0 → n ≡ 0x00 → r ≡ 0
   pub ones-missing : refusalIn r ≡ 0 → n ≡ 0xFF → r ≡ 0
 
 -- [X12]
-abbrev pub C-certifies : Type 0
-C-certifies = (card desk : List ℕ) (n : ℕ) → CertifiedC card desk n (certificateResult (located card desk n))
+abbrev pub C-certificate : Type 0
+C-certificate = (card desk : List ℕ) (n : ℕ) → CertificateC card desk n (certificateResult (located card desk n))
 
 -- ---- "is record 7 still the record 7 that was written?", as the desk asks it
 

@@ -1,7 +1,7 @@
 -- Which of the two bodies has a certificate, and where it stands there.
 -- Read before: specs/Certificates.antt. Exports: `certificatesOk-bodyOk`; `hasNumber-…` (a number and a count); `Stands`, `stands` (a record is
--- whole in its body, and place and length are small); `located-…` (the answer by the tests, in their order); `Told`, `told` (what an answer
--- tells); `card-…`, `desk-…`, `none-part` (what is returned, by the answer).
+-- whole in its body, and place and length are small); `stretchOf-is` (the same, as the code has it); `located-…` (the answer by the tests, in
+-- their order); `BothOk`, `Told`, `told` (what an answer tells); `card-part`, `desk-part`, `missing-part`, `refused-part` (what is returned).
 use Prim.Native.Nat.{ℕ, zero, suc, _+_, _*_, _-_, _≤_, _<_, min}
 use mathlib.Core.Path.{_≡_, refl, sym, ap, _∙_, subst}
 use mathlib.Core.Bool.{true, false, and-true, and-false}
@@ -40,10 +40,6 @@ module _ (xs : List ℕ) (n : ℕ) where
   pub hasNumber-count : (k : ℕ) → 1 ≤ n → k ≡ count xs → leb n k ≡ hasNumber xs n
   unfolding hasNumber allOf
   hasNumber-count k h e = simp (e, le-leb _ _ h, and-true)
-
-  pub hasNumber-past : count xs < n → hasNumber xs n ≡ false
-  unfolding hasNumber allOf
-  hasNumber-past h = simp (lt-leb _ _ h, and-false)
 
   pub hasNumber-accepted : 1 ≤ n → n ≤ count xs → hasNumber xs n ≡ true
   unfolding hasNumber

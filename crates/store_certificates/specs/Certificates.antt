@@ -43,14 +43,14 @@ CertificatePart Refused n card desk r = (now r ≡ []) × PartOf card 0 0 r
 
 -- ---- the numbers of an answer
 
--- 9 for the refusal, and else none [P2]
+-- 9 for the refusal, and else none [P2] [C2]
 abbrev pub certificateRefusal : Located → ℕ
 certificateRefusal (Card s) = 0
 certificateRefusal (Desk s) = 0
 certificateRefusal Missing = 0
 certificateRefusal Refused = 9
 
--- which of the two bodies: 1 the card's, 2 the desk's; 0 where there is no certificate [P6]
+-- which of the two bodies: 1 the card's, 2 the desk's; 0 where there is no certificate [P6] [C2]
 abbrev pub whichBody : Located → ℕ
 whichBody (Card s) = 1
 whichBody (Desk s) = 2

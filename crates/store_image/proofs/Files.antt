@@ -154,3 +154,11 @@ module _ (img : List ℕ) (k : ℕ) (b : List ℕ) (h : has img k ≡ true) (len
     where
       go : Stands → wellFormed (withBody img k b) ≡ true
       go (stands s e p) = ap wellFormed p ∙ spliced-wellFormed img k s b e o r
+
+-- every body stays where it is, whether the file is there or not
+pub withBody-find-same : (img : List ℕ) (k : ℕ) (b : List ℕ) → length b ≡ length (body img k) → (j : ℕ) → find (withBody img k b) j ≡ find img j
+withBody-find-same img k b l j = go (find img k) refl
+  where
+    go : (f : Found) → find img k ≡ f → find (withBody img k b) j ≡ find img j
+    go (At s n) e = withBody-find img k b (has-found img k s n e) l j
+    go Missing e = ap (λ (x : List ℕ). find x j) (sym (withBody-missing img k e b))

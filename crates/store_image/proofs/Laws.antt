@@ -292,3 +292,17 @@ module _ (img : List ℕ) (k : ℕ) (o : wellFormed img ≡ true) (b : isBiometr
   activate-changes =
       changed img k (activate (body img k)) o h (updating.activate-length (body img k))
       (biometrics-kind k (activate (body img k)) b ∙ activate-wellFormed (body img k) (biometrics-file img k o b h))
+
+-- whatever is written, every body stays where it is
+module _ (img : List ℕ) (k : ℕ) where
+  pub append-find : (d : List ℕ) (j : ℕ) → find (appendTo img k d) j ≡ find img j
+  unfolding appendTo
+  append-find d = files.withBody-find-same img k (append (body img k) d) (appending.append-length (body img k) d)
+
+  pub update-find : (off : ℕ) (d : List ℕ) (j : ℕ) → find (updateIn img k off d) j ≡ find img j
+  unfolding updateIn
+  update-find off d = files.withBody-find-same img k (update (body img k) off d) (updating.update-length (body img k) off d)
+
+  pub activate-find : (j : ℕ) → find (activateIn img k) j ≡ find img j
+  unfolding activateIn
+  activate-find = files.withBody-find-same img k (activate (body img k)) (updating.activate-length (body img k))

@@ -250,7 +250,7 @@ pub fn file(image: &[u8], kind: u16) -> Option<Range<usize>> {
 
 /// Whose body a certificate is in.
 #[derive(Clone, Copy, Debug, PartialEq, Eq)]
-pub enum Holder {
+pub enum Source {
     Card,
     Desk,
 }
@@ -258,7 +258,7 @@ pub enum Holder {
 /// A certificate that a stamp names.
 #[derive(Clone, Copy, Debug, PartialEq, Eq)]
 pub struct Certificate<'a> {
-    pub holder: Holder,
+    pub source: Source,
     /// The part of that body that is the certificate.
     pub bytes: &'a [u8],
 }
@@ -272,7 +272,7 @@ pub struct Certificate<'a> {
 /// A card with one certificate, and a desk's copy with one more:
 ///
 /// ```
-/// use malquindo::{Certificate, Holder};
+/// use malquindo::{Certificate, Source};
 ///
 /// let mut image = [0; 138];
 /// let rooms = [(0x0101, 40), (0x0102, 40), (0x011A, 40)];
@@ -283,12 +283,12 @@ pub struct Certificate<'a> {
 ///
 /// let card = &image[body];
 /// let desk = [2, 0, 2, 0, 0xC1, 0xC1, 1, 0, 0xC2];
-/// let (holder, bytes) = (Holder::Card, &card[4..6]);
+/// let (source, bytes) = (Source::Card, &card[4..6]);
 /// let first = malquindo::certificate(card, &desk, 0x01)?;
-/// assert_eq!(first, Some(Certificate { holder, bytes }));
-/// let (holder, bytes) = (Holder::Desk, &desk[8..]);
+/// assert_eq!(first, Some(Certificate { source, bytes }));
+/// let (source, bytes) = (Source::Desk, &desk[8..]);
 /// let second = malquindo::certificate(card, &desk, 0x02)?;
-/// assert_eq!(second, Some(Certificate { holder, bytes }));
+/// assert_eq!(second, Some(Certificate { source, bytes }));
 /// assert_eq!(malquindo::certificate(card, &desk, 0x03)?, None);
 /// # Ok::<(), malquindo::Refusal>(())
 /// ```
@@ -298,15 +298,15 @@ pub fn certificate<'a>(
     reference: u8,
 ) -> Result<Option<Certificate<'a>>, Refusal> {
     let low = accepted(malquindo_sys::certificate(card, desk, reference))?;
-    let (holder, body) = match low >> 28 {
+    let (source, body) = match low >> 28 {
         0 => return Ok(None),
-        1 => (Holder::Card, card),
-        2 => (Holder::Desk, desk),
+        1 => (Source::Card, card),
+        2 => (Source::Desk, desk),
         other => panic!("body {other} has the certificate, which is not known here"),
     };
     let (place, length) = ((low >> 10 & 0x3FFFF) as usize, (low & 0x3FF) as usize);
     let bytes = &body[place..place + length];
-    Ok(Some(Certificate { holder, bytes }))
+    Ok(Some(Certificate { source, bytes }))
 }
 
 #[cfg(test)]
@@ -433,17 +433,17 @@ mod tests {
     }
 
     /// Whose the certificate is, and where its bytes lie in memory: a copy would lie elsewhere.
-    fn found(card: &[u8], desk: &[u8], reference: u8) -> (Holder, Range<*const u8>) {
+    fn found(card: &[u8], desk: &[u8], reference: u8) -> (Source, Range<*const u8>) {
         let certificate = certificate(card, desk, reference).unwrap().unwrap();
-        (certificate.holder, certificate.bytes.as_ptr_range())
+        (certificate.source, certificate.bytes.as_ptr_range())
     }
 
-    fn on_card(part: &[u8]) -> (Holder, Range<*const u8>) {
-        (Holder::Card, part.as_ptr_range())
+    fn on_card(part: &[u8]) -> (Source, Range<*const u8>) {
+        (Source::Card, part.as_ptr_range())
     }
 
-    fn at_desk(part: &[u8]) -> (Holder, Range<*const u8>) {
-        (Holder::Desk, part.as_ptr_range())
+    fn at_desk(part: &[u8]) -> (Source, Range<*const u8>) {
+        (Source::Desk, part.as_ptr_range())
     }
 
     #[test]

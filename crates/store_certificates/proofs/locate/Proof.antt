@@ -1,4 +1,5 @@
--- `store_certificates::locate` meets its contract: each return is the answer behind the tests before it.
+-- `store_certificates::locate` meets its contract: each return is the answer behind the tests before it. Where a stretch is asked for, both
+-- bodies are known to be well formed, and the search takes the fact that fits.
 use mathlib.Core.Path.{sym, ap, _∙_}
 use Rattle.base.proofs.Cases.{flag-accepted, flag-refused}
 use Rattle.store_certificates.specs.declared.Located.the-variants.{Card, Desk}

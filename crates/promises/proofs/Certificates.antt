@@ -1,34 +1,46 @@
 -- The certificate that a stamp names: what the results of `malquindo_file` and `malquindo_certificate` tell, and that a certificate stays over
--- any calls. Read before: ../specs/Certificates.antt, proofs/Locating.antt of store_certificates. Exports `c-file`, `c-certifies`,
--- `c-certificate-kept`.
-use Prim.Native.Nat.{ℕ, _+_, _-_, _*_, _%_, _≤_, _<_}
-use mathlib.Core.Path.{_≡_, refl, sym, ap, ap₂, subst, _∙_}
+-- any calls. Read before: ../specs/Certificates.antt, proofs/Locating.antt of store_certificates. Exports `c-file`, `c-file-stays`,
+-- `c-certificate`, `c-certificate-kept`.
+use Prim.Native.Nat.{ℕ, zero, suc, _+_, _-_, _*_, _%_, _≤_, _<_}
+use mathlib.Core.Path.{_≡_, refl, sym, ap, ap₂, _∙_}
 use mathlib.Core.Bool.{true, false, _&&_, and-true}
 use mathlib.Core.List.{List, [], _∷_, _++_, List·Memᴰ·head, List·Memᴰ·tail}
 use native.Mathlib.Omega.{arith}
 use native.Mathlib.Nat.{mod-eq-of-lt}
 use lib.ListN.{length}
+use lib.Dec.{eqb}
 use borrow.Author.Tests.{leb-true}
 use Rattle.base.specs.Choice.{allOf}
 use Rattle.base.specs.Bytes.{part}
-use Rattle.base.proofs.Cases.{false-true, by-cases, allOf-facts}
+use Rattle.base.proofs.Cases.{false-true, by-cases, ifElse-ind, allOf-facts}
 use Rattle.store_records.specs.Body.{records, nth, bodyOk}
 use Rattle.store_records.proofs.Bodies.{bodyOk-facts, bodyOk-short, records-length}
-use Rattle.store_kinds.specs.Rules.{isBiometrics}
+use Rattle.store_kinds.specs.Rules.{isBiometrics, biometricsKind}
 use Rattle.store_image.specs.Image.{lenAt, kindAt, find, has, body, recordsOf, wellFormed}
 use Rattle.store_image.specs.declared.Found.{Found}
 use Rattle.store_image.specs.declared.Found.the-variants.{At, Missing}
 use Rattle.store_image.proofs.Files.{has-found, has-missing, body-lacking, body-wellFormed}
-use Rattle.store_image.proofs.Laws.{found-inside, found-head, found-body}
+use Rattle.store_image.proofs.Laws.{found-inside, found-head, found-body, append-find, update-find, activate-find}
 use Rattle.store_certificates.specs.Certificates.{certificatesOk, hasNumber, located, whichBody}
 use Rattle.store_certificates.specs.declared.Stretch.{Stretch}
 use Rattle.store_certificates.specs.declared.Located.{Located}
 use Rattle.store_certificates.specs.declared.Located.the-variants.{Card, Desk, Missing as NotThere, Refused}
 use Rattle.store_certificates.proofs.Locating.{certificatesOk-bodyOk, hasNumber-accepted, hasNumber-facts, Stands, BothOk, Told, told}
 use Rattle.store_certificates.proofs.Keeping.{located-kept}
-use Rattle.malquindo.specs.Face.{foundResult, fileResult, certificateResult}
-use Rattle.promises.specs.Linked.{refusalIn, CCall, afterCallC, afterC, additionsC, historyC}
-use Rattle.promises.specs.Certificates.{filePlaceIn, fileLengthIn, whichIn, certificatePlaceIn, certificateLengthIn, FileC, C-file, Numbers, certificateBytes, StandsC, CertifiedC, C-certifies, cardBody, certificateOn, C-certificate-kept}
+use Rattle.machine_session.specs.declared.Session.{Session}
+use Rattle.machine_session.specs.declared.Verdict.{Verdict}
+use Rattle.machine_session.specs.declared.Verdict.the-variants.{Accepted, Refused as NotTaken}
+use Rattle.machine_record.specs.SearchRecord.{searchStatus}
+use Rattle.machine_dispatch.specs.Decide.{decide, dataOf}
+use Rattle.machine_action.specs.declared.Action.{Action}
+use Rattle.machine_action.specs.declared.Action.the-variants.{Status, SelectApplication, SelectFile, ReadBinary, UpdateBinary, Activate, AppendRecord, ReadRecord, SearchRecord, Report}
+use Rattle.machine_answer.specs.Outcome.{Outcome, says}
+use Rattle.machine.specs.Effects.{searched, done}
+use Rattle.machine.specs.Step.{verdictOn, stepBy, step}
+use Rattle.machine_session_bytes.specs.Layout.{isSession, sessionIn}
+use Rattle.malquindo.specs.Face.{Called, malformed, called, foundResult, fileResult, certificateResult}
+use Rattle.promises.specs.Linked.{refusalIn, CCall, CommandC, afterCallC, afterC, additionsC, historyC}
+use Rattle.promises.specs.Certificates.{filePlaceIn, fileLengthIn, whichIn, certificatePlaceIn, certificateLengthIn, FileC, C-file, C-file-stays, IsNumber, certificateBytes, StandsC, CertificateC, C-certificate, cardBody, certificateOn, C-certificate-kept}
 use Rattle.promises.proofs.Calling.{c-holds}
 
 -- ---- where a file's body stands
@@ -53,6 +65,7 @@ module _ (img : List ℕ) (k r : ℕ) where
       record {
         there-complete = λ o h. absurd (f o h);
         there-sound = λ h. absurd (omega arith);
+        stands = λ h. absurd (omega arith);
         within = omega arith;
         bytes = λ h. absurd (omega arith);
         head = λ h. absurd (omega arith);
@@ -69,19 +82,11 @@ module _ (img : List ℕ) (k r : ℕ) where
       record {
         there-complete = λ _ _. omega (arith, h .0);
         there-sound = λ _. (o, has-found img k s n e);
+        stands = λ _. e ∙ ap₂ (λ (x y : ℕ). At x y) (sym p) (sym l);
         within = omega arith;
         bytes = λ _. ap₂ (λ (x y : ℕ). part img x y) p l ∙ sym (found-body img k s n e);
-        head = λ _. (ap (λ (x : ℕ). lenAt img (x - 6)) p ∙ h .1 ∙ sym l, ap (λ (x : ℕ). kindAt img (x - 6)) p ∙ h .2);
+        head = λ _. (omega (arith, h .0), ap (λ (x : ℕ). lenAt img (x - 6)) p ∙ h .1 ∙ sym l, ap (λ (x : ℕ). kindAt img (x - 6)) p ∙ h .2);
       }
-
--- a file that is not there
-file-lacking : (img : List ℕ) (k : ℕ) → wellFormed img ≡ true → has img k ≡ false → fileResult img k ≡ 0
-unfolding fileResult
-file-lacking img k o h = go (find img k) refl
-  where
-    go : (f : Found) → find img k ≡ f → fileResult img k ≡ 0
-    go (At s n) e = false-true (sym h ∙ has-found img k s n e)
-    go Missing e = simp (o, e)
 
 pub c-file : C-file
 unfolding fileResult
@@ -90,6 +95,49 @@ c-file img k = by-cases (wellFormed img) (λ o. go o (find img k) refl) (λ o. f
     go : wellFormed img ≡ true → (f : Found) → find img k ≡ f → FileC img k (fileResult img k)
     go o (At s n) e = file-at img k _ s n o e (simp (o, e))
     go o Missing e = file-none img k _ (simp (o, e)) (λ _ h. false-true (sym (has-missing img k e) ∙ h))
+
+-- what is not there is told as 0
+none-told : (r : ℕ) → (1 ≤ r → ⊥) → r ≡ 0
+none-told zero f = refl
+none-told (suc r) f = absurd (f (omega arith))
+
+file-lacking : (img : List ℕ) (k : ℕ) → has img k ≡ false → fileResult img k ≡ 0
+file-lacking img k h = none-told (fileResult img k) (λ g. false-true (sym h ∙ c-file img k .there-sound g .1))
+
+-- ---- a command leaves every body where it is
+
+module _ (img : List ℕ) (s : Session) (buf : List ℕ) (k : ℕ) where
+  done-find : (x : Action) (d : List ℕ) → find (done x img s d buf .image) k ≡ find img k
+  unfolding done says searched
+  done-find (Status w) d = refl
+  done-find (SelectApplication a) d = refl
+  done-find (SelectFile f) d = refl
+  done-find (ReadBinary t o n) d = refl
+  done-find (UpdateBinary n w) d = update-find img (biometricsKind n) (w .offset) (part d (w .bytes .at) (w .bytes .len)) k
+  done-find (Activate n) d = activate-find img (biometricsKind n) k
+  done-find (AppendRecord r) d = append-find img (r .kind) d k
+  done-find (ReadRecord r a b) d = refl
+  done-find (SearchRecord r q ne) d =
+      ifElse-ind (λ (x : Outcome). find (x .image) k ≡ find img k) (eqb (searchStatus (recordsOf img (r .kind)) d q ne) 0x9000) (λ e. refl) (λ e. refl)
+  done-find (Report f p2) d = refl
+
+  stepBy-find : (v : Verdict) (cmd : List ℕ) → find (stepBy v img s cmd buf .image) k ≡ find img k
+  unfolding stepBy
+  stepBy-find Accepted cmd = done-find (decide img s cmd) (dataOf cmd)
+  stepBy-find (NotTaken r) cmd = refl
+
+called-find : (img ses cmd buf : List ℕ) (k : ℕ) → find (called img ses cmd buf .image) k ≡ find img k
+unfolding called malformed step
+called-find img ses cmd buf k =
+    ifElse-ind (λ (c : Called). find (c .image) k ≡ find img k) (isSession ses)
+    (λ _. stepBy-find img (sessionIn ses) buf k (verdictOn img (sessionIn ses) (length buf)) cmd)
+    (λ _. refl)
+
+pub c-file-stays : C-file-stays
+unfolding fileResult afterC afterCallC
+c-file-stays img ses cmd buf k o =
+    let w : wellFormed (called img ses cmd buf .image) ≡ true = c-holds img (CommandC ses cmd buf ∷ []) o .well in
+    simp (o, w, called-find img ses cmd buf k)
 
 -- ---- the numbers of a result
 
@@ -120,18 +168,18 @@ zero-which r z = omega arith
 -- ---- which certificate it is
 
 module _ (xs : List ℕ) (n : ℕ) where
-  numbers-has : Numbers xs n → hasNumber xs n ≡ true
-  numbers-has h = hasNumber-accepted xs n (h .0) (let c = records-length xs in omega (arith, h .1))
+  isNumber-has : IsNumber xs n → hasNumber xs n ≡ true
+  isNumber-has h = hasNumber-accepted xs n (h .0) (let c = records-length xs in omega (arith, h .1))
 
-  has-numbers : hasNumber xs n ≡ true → Numbers xs n
-  has-numbers e = let h = hasNumber-facts xs n e in (h .first, (let c = records-length xs in omega (arith, h .last)))
+  has-isNumber : hasNumber xs n ≡ true → IsNumber xs n
+  has-isNumber e = let h = hasNumber-facts xs n e in (h .first, (let c = records-length xs in omega (arith, h .last)))
 
-  numbers-none : hasNumber xs n ≡ false → Numbers xs n → ⊥
-  numbers-none e h = false-true (sym e ∙ numbers-has h)
+  isNumber-none : hasNumber xs n ≡ false → IsNumber xs n → ⊥
+  isNumber-none e h = false-true (sym e ∙ isNumber-has h)
 
   -- no body has a record of number 255
-  numbers-last : certificatesOk xs ≡ true → Numbers xs n → n ≤ 254
-  numbers-last c h =
+  isNumber-last : certificatesOk xs ≡ true → IsNumber xs n → n ≤ 254
+  isNumber-last c h =
       let b = bodyOk-facts 929 254 xs (sym (certificatesOk-bodyOk xs) ∙ c) in
       omega (arith, b .few, h .1, records-length xs)
 
@@ -139,7 +187,7 @@ module _ (xs : List ℕ) (n : ℕ) where
   unfolding certificateBytes
   stands-c s r f w h e t =
       record {
-        there = has-numbers e;
+        there = has-isNumber e;
         behind = t .place ∙ h .behind;
         within = omega (arith, h .within, t .place, t .length);
         some = omega (arith, h .some, t .length);
@@ -154,12 +202,12 @@ module _ (card desk : List ℕ) (n : ℕ) where
   both-ok : BothOk card desk n → (bodyOk 929 254 card && bodyOk 929 254 desk) ≡ true
   both-ok h = rw (← certificatesOk-bodyOk card, ← certificatesOk-bodyOk desk, h .0, h .1)
 
-  found-card : (s : Stretch) → Told card desk n (Card s) → CertifiedC card desk n (certificateResult (Card s))
+  found-card : (s : Stretch) → Told card desk n (Card s) → CertificateC card desk n (certificateResult (Card s))
   unfolding certificateResult
   found-card s t =
       let q = t .2 in
       let r = tells (certificateResult (Card s)) 0 1 (s .start) (s .length) (omega arith) (q .start-small) (q .length-small) refl in
-      let h = has-numbers card n (t .1) in
+      let h = has-isNumber card n (t .1) in
       record {
         refused-complete = λ f. false-true (sym f ∙ both-ok (t .0));
         refused-sound = λ g. absurd (omega (arith, r .refusal));
@@ -171,16 +219,16 @@ module _ (card desk : List ℕ) (n : ℕ) where
         missing-complete = λ _ no _. absurd (no h);
         missing-sound = λ z. absurd (omega (arith, r .which, zero-which _ z));
         zero-missing = λ _ z. absurd (omega (arith, h .0));
-        ones-missing = λ _ z. absurd (omega (arith, numbers-last card n (t .0 .0) h));
+        ones-missing = λ _ z. absurd (omega (arith, isNumber-last card n (t .0 .0) h));
       }
 
-  found-desk : (s : Stretch) → Told card desk n (Desk s) → CertifiedC card desk n (certificateResult (Desk s))
+  found-desk : (s : Stretch) → Told card desk n (Desk s) → CertificateC card desk n (certificateResult (Desk s))
   unfolding certificateResult
   found-desk s t =
       let q = t .3 in
       let r = tells (certificateResult (Desk s)) 0 2 (s .start) (s .length) (omega arith) (q .start-small) (q .length-small) refl in
-      let h = has-numbers desk n (t .2) in
-      let none = numbers-none card n (t .1) in
+      let h = has-isNumber desk n (t .2) in
+      let none = isNumber-none card n (t .1) in
       record {
         refused-complete = λ f. false-true (sym f ∙ both-ok (t .0));
         refused-sound = λ g. absurd (omega (arith, r .refusal));
@@ -192,29 +240,29 @@ module _ (card desk : List ℕ) (n : ℕ) where
         missing-complete = λ _ _ no. absurd (no h);
         missing-sound = λ z. absurd (omega (arith, r .which, zero-which _ z));
         zero-missing = λ _ z. absurd (omega (arith, h .0));
-        ones-missing = λ _ z. absurd (omega (arith, numbers-last desk n (t .0 .1) h));
+        ones-missing = λ _ z. absurd (omega (arith, isNumber-last desk n (t .0 .1) h));
       }
 
-  found-none : Told card desk n NotThere → CertifiedC card desk n (certificateResult NotThere)
+  found-none : Told card desk n NotThere → CertificateC card desk n (certificateResult NotThere)
   unfolding certificateResult
   found-none t =
       let r = tells (certificateResult NotThere) 0 0 0 0 (omega arith) (omega arith) (omega arith) refl in
-      let none = numbers-none card n (t .1) in
+      let none = isNumber-none card n (t .1) in
       record {
         refused-complete = λ f. false-true (sym f ∙ both-ok (t .0));
         refused-sound = λ g. absurd (omega (arith, r .refusal));
         which-known = rw (r .which) (List·Memᴰ·head refl);
         card-complete = λ _ g. absurd (none g);
         card-sound = λ g. absurd (omega (arith, r .which));
-        desk-complete = λ _ _ g. absurd (numbers-none desk n (t .2) g);
+        desk-complete = λ _ _ g. absurd (isNumber-none desk n (t .2) g);
         desk-sound = λ g. absurd (omega (arith, r .which));
         missing-complete = λ _ _ _. refl;
-        missing-sound = λ _. (none, numbers-none desk n (t .2));
+        missing-sound = λ _. (none, isNumber-none desk n (t .2));
         zero-missing = λ _ _. refl;
         ones-missing = λ _ _. refl;
       }
 
-  found-refused : Told card desk n Refused → CertifiedC card desk n (certificateResult Refused)
+  found-refused : Told card desk n Refused → CertificateC card desk n (certificateResult Refused)
   unfolding certificateResult
   found-refused t =
       let r = tells (certificateResult Refused) 9 0 0 0 (omega arith) (omega arith) (omega arith) refl in
@@ -232,14 +280,14 @@ module _ (card desk : List ℕ) (n : ℕ) where
         ones-missing = λ z _. absurd (omega (arith, r .refusal));
       }
 
-pub c-certifies : C-certifies
-c-certifies card desk n = go (located card desk n) refl
+pub c-certificate : C-certificate
+c-certificate card desk n = go (located card desk n) (told card desk n (located card desk n) refl)
   where
-    go : (l : Located) → located card desk n ≡ l → CertifiedC card desk n (certificateResult (located card desk n))
-    go (Card s) e = subst (λ (l : Located). CertifiedC card desk n (certificateResult l)) (sym e) (found-card card desk n s (told card desk n (Card s) e))
-    go (Desk s) e = subst (λ (l : Located). CertifiedC card desk n (certificateResult l)) (sym e) (found-desk card desk n s (told card desk n (Desk s) e))
-    go NotThere e = subst (λ (l : Located). CertifiedC card desk n (certificateResult l)) (sym e) (found-none card desk n (told card desk n NotThere e))
-    go Refused e = subst (λ (l : Located). CertifiedC card desk n (certificateResult l)) (sym e) (found-refused card desk n (told card desk n Refused e))
+    go : (l : Located) → Told card desk n l → CertificateC card desk n (certificateResult l)
+    go (Card s) t = found-card card desk n s t
+    go (Desk s) t = found-desk card desk n s t
+    go NotThere t = found-none card desk n t
+    go Refused t = found-refused card desk n t
 
 -- ---- a certificate stays
 
@@ -250,7 +298,7 @@ cardBody-is img o =
     let f = c-file img 0x011A in
     by-cases (has img 0x011A)
     (λ h. f .bytes (f .there-complete o h))
-    (λ h. rw (file-lacking img 0x011A o h) (sym (body-lacking img 0x011A h)))
+    (λ h. rw (file-lacking img 0x011A h) (sym (body-lacking img 0x011A h)))
 
 -- its records are those of the file
 card-records : (img : List ℕ) → wellFormed img ≡ true → records (cardBody img) ≡ recordsOf img 0x011A
@@ -331,6 +379,6 @@ c-certificate-kept img desk other calls later n o ok w =
     record {
       result-kept = ap (λ (l : List ℕ). certificateOn l other n) e ∙ k .0;
       bytes-kept = ap (λ (l : List ℕ). certificateBytes (cardBody l) (certificateOn now desk n)) e ∙ k .1;
-      history = c-certifies (cardBody now) desk n .card-sound w .bytes
+      history = c-certificate (cardBody now) desk n .card-sound w .bytes
           ∙ ap (λ (rs : List (List ℕ)). nth rs n) (card-records now (h .well) ∙ h .records 0x011A certificates-records);
     }
