@@ -19,8 +19,7 @@ use Rattle.store_kinds.specs.Rules.{isBiometrics, biometricsKind}
 use Rattle.store_image.specs.Image.{lenAt, kindAt, find, has, body, recordsOf, wellFormed}
 use Rattle.store_image.specs.declared.Found.{Found}
 use Rattle.store_image.specs.declared.Found.the-variants.{At, Missing}
-use Rattle.store_image.proofs.Files.{has-found, has-missing, body-lacking, body-wellFormed}
-use Rattle.store_image.proofs.Laws.{found-inside, found-head, found-body, append-find, update-find, activate-find}
+use Rattle.store_image.proofs.Laws.{found-inside, found-head, found-body, has-found, has-missing, body-wellFormed, body-lacking, append-find, update-find, activate-find}
 use Rattle.store_certificates.specs.Certificates.{certificatesOk, hasNumber, located, whichBody}
 use Rattle.store_certificates.specs.declared.Stretch.{Stretch}
 use Rattle.store_certificates.specs.declared.Located.{Located}

@@ -25,7 +25,7 @@ use Rattle.store_kinds.specs.declared.rules.Key.the-variants.{Kind}
 use Rattle.store_kinds.specs.declared.rules.Rule.{Rule}
 use Rattle.store_kinds.specs.declared.rules.Ruled.{Ruled}
 use Rattle.store_kinds.specs.declared.rules.Ruled.the-variants.{Is, Nothing}
-use Rattle.store_image.specs.declared.Found.the-variants.{At}
+use Rattle.store_image.specs.declared.Found.the-variants.{At, Missing}
 use Rattle.store_records.proofs.Bodies as bodies
 use Rattle.store_records.proofs.Appending as appending
 use Rattle.store_kinds.proofs.Updating as updating
@@ -201,6 +201,19 @@ found-apart = splicing.found-apart
 
 pub found-body : (img : List ℕ) (k s n : ℕ) → find img k ≡ At s n → body img k ≡ part img s n
 found-body = files.body-found
+
+-- a file is there where a section of its kind is found. One that is there is right for its kind; one that is not has no body
+pub has-found : (img : List ℕ) (k s n : ℕ) → find img k ≡ At s n → has img k ≡ true
+has-found = files.has-found
+
+pub has-missing : (img : List ℕ) (k : ℕ) → find img k ≡ Missing → has img k ≡ false
+has-missing = files.has-missing
+
+pub body-wellFormed : (img : List ℕ) (k : ℕ) → wellFormed img ≡ true → has img k ≡ true → kindOk k (body img k) ≡ true
+body-wellFormed = files.body-wellFormed
+
+pub body-lacking : (img : List ℕ) (k : ℕ) → has img k ≡ false → body img k ≡ []
+body-lacking = files.body-lacking
 
 -- the record files of an application that is present are there, and the application of a file that is there is present
 pub present-has : (img : List ℕ) (key : Key) (r : Rule) → ruleOf key ≡ Is r → present img (r .application) ≡ true → has img (r .kind) ≡ true
