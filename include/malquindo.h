@@ -13,8 +13,8 @@
  *   - no pointer is null, even where the length is 0.
  * Beyond that every function takes any bytes and any lengths, and always returns.
  *
- * Results. A result is one number of 64 bits. Its upper 32 bits are the refusal, 0 where the call is not refused.
- * (malquindo_file is the exception: it refuses nothing, and answers 0 where there is no such file.)
+ * Results. A result is one number of 64 bits. malquindo_file refuses nothing, and its result stands with it. Of the other
+ * functions the upper 32 bits are the refusal, 0 where the call is not refused:
  *    1  command        the response buffer is shorter than MALQUINDO_RESPONSE_LEN
  *    2  command, move  the image is not well formed
  *    3  open           the rights are not MALQUINDO_RIGHTS_LEN bytes
