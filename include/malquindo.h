@@ -8,7 +8,8 @@
  * library it needs memcpy and memset.
  *
  * What the caller must see to. Nothing checks these three:
- *   - each pointer is to as many bytes as its length says, valid for reading and, where it is not const, for writing;
+ *   - each pointer is to as many elements as its length says (bytes, or of an index 32-bit places), aligned for them, valid
+ *     for reading and, where it is not const, for writing;
  *   - no buffer that is written overlaps another buffer of the call;
  *   - no pointer is null, even where the length is 0.
  * Beyond that every function takes any bytes and any lengths, and always returns.
@@ -20,6 +21,7 @@
  *    3  open           the rights are not MALQUINDO_RIGHTS_LEN bytes
  *    4  open           the session buffer is shorter than MALQUINDO_SESSION_LEN
  *       command        it is shorter, its bytes are no session, or the session does not fit the image
+ *    6  index          the body, the list or the number does not fit; what that is stands with each function
  *    9  certificate    the card's body or the desk's body is not well formed
  *   10  move           the list lays out no valid image
  *   11  move           a kind of the old image is not in the list
@@ -41,6 +43,7 @@ extern "C" {
 #define MALQUINDO_SESSION_LEN 25    /* a session; malquindo_session_len() says the same */
 #define MALQUINDO_RESPONSE_LEN 2050 /* the shortest response buffer: 2,048 bytes of data, SW1, SW2 */
 #define MALQUINDO_IMAGE_LEN 262144  /* the longest card image */
+#define MALQUINDO_RECORDS 254       /* the most records of a file */
 
 /* How many bytes a session has: 25.
  *
@@ -117,6 +120,42 @@ uint64_t malquindo_file(const uint8_t *image, size_t image_len, uint16_t kind);
 uint64_t malquindo_certificate(const uint8_t *card, size_t card_len, const uint8_t *desk, size_t desk_len,
                                uint8_t reference);
 
+/* An index: a list of places, one for each record of a file's body, so that a record is read without a walk over those before
+ * it. A place is where the length of the record (2 bytes, little-endian) stands in the body, counted in bytes from the body's
+ * first; the record begins 2 bytes behind it. The body is that of a record file of a card image; malquindo_file tells where
+ * it stands. The caller keeps the list. MALQUINDO_RECORDS entries are enough for any file.
+ *
+ * Build the index once. After each APPEND RECORD to the file that is answered 0x9000, extend it. Then it has the place of
+ * every record, whatever other commands are run. A move changes no place either: lend the body of the new image. */
+
+/* Builds an index: writes the places of all records into the first entries of the list, in the order of the records. Entries
+ * behind them stay as they came. The lower 32 bits of the result are the number of places, which is that of the records.
+ *
+ * Refusal 6: the kind is not that of a record file; the body is not well formed for it; the list has fewer entries than the
+ * body has records. The list then stays as it came. */
+uint64_t malquindo_index_build(uint16_t kind, const uint8_t *body, size_t body_len, uint32_t *places, size_t places_len);
+
+/* Extends an index that holds n places, after a record was appended to the body: writes the place of record n + 1 into the
+ * entry behind them, places[n]. Every other entry stays as it came, and none is read. The lower 32 bits of the result are
+ * n + 1.
+ *
+ * Refusal 6: the kind is not that of a record file; the body is not well formed for it; it has not n + 1 records; the list
+ * has no entry places[n]. The list then stays as it came. */
+uint64_t malquindo_index_extend(uint16_t kind, const uint8_t *body, size_t body_len, uint32_t *places, size_t places_len,
+                                size_t n);
+
+/* Reads the record of a number, counted from 1, by its place in a list alone. Here places_len is the number of places that
+ * the list holds, and not the room that it has. The lower 32 bits of the result are the length of the record, whose bytes
+ * begin at body[places[number - 1] + 2]. Body and list are only read.
+ *
+ * Nothing else of the body or of the list is looked at: for a list that was not built from this body, the record is what the
+ * length at the place says, and may have no byte or more than any record of a file.
+ *
+ * Refusal 6: the number is 0 or above places_len; the length at the place, or as many bytes behind it, go past the end of
+ * the body. */
+uint64_t malquindo_index_read(const uint8_t *body, size_t body_len, const uint32_t *places, size_t places_len,
+                              size_t number);
+
 /* The parts of a result. */
 
 /* Of every function but malquindo_file: the refusal, 0 for none. */
@@ -142,6 +181,11 @@ static inline unsigned malquindo_certificate_which(uint64_t result) { return (un
 static inline size_t malquindo_certificate_place(uint64_t result) { return (size_t)(result >> 10 & 0x3FFFF); }
 /* Of a certificate: its length. */
 static inline size_t malquindo_certificate_length(uint64_t result) { return (size_t)(result & 0x3FF); }
+
+/* Of building and extending an index: how many places the list then holds. */
+static inline size_t malquindo_index_places(uint64_t result) { return (size_t)(result & 0xFFFFFFFF); }
+/* Of reading by an index: the length of the record. */
+static inline size_t malquindo_index_length(uint64_t result) { return (size_t)(result & 0xFFFFFFFF); }
 
 #ifdef __cplusplus
 }

@@ -5,7 +5,7 @@
 -- not hold of a contract that says too little.
 use mathlib.Core.Path.{_≡_}
 use mathlib.Core.List.{List}
-use Prim.Native.Nat.{ℕ}
+use Prim.Native.Nat.{ℕ, suc}
 use mir.Syntax.{w8}
 use contract.Lifetimes.{Lfts}
 use denote.Ref.{ptr, now}
@@ -27,22 +27,22 @@ abbrev pub Determined : {n : ℕ} (ps : List (PK n)) (r : RK n) → Out n ps r �
 Determined {n} ps r Post =
     (κs : Lfts n) (a : Dens κs ps) (e f : Ending ps r κs a) → Fulfils ps r Post κs a e → Fulfils ps r Post κs a f → e ≡ f
 
--- the kind of a result that is a part, as `&[u8]`, of the one slice that is lent [C1]
-abbrev pub PartLent : RK 1
+-- the kind of a result that is a part, as `&[u8]`, of a slice that is lent for the first of the lifetimes [C1]
+abbrev pub PartLent : {n : ℕ} → RK (suc n)
 PartLent = rShrS (rtF (fInt w8)) 0 tt
 
 -- where such a part is returned, its bytes are equal; where in memory they stand is left open [C1]
-abbrev pub Determined-part : (ps : List (PK 1)) → Out 1 ps PartLent → Type 0
-Determined-part ps Post =
-    (κs : Lfts 1) (a : Dens κs ps) (e f : Ending ps PartLent κs a)
+abbrev pub Determined-part : {n : ℕ} (ps : List (PK (suc n))) → Out (suc n) ps PartLent → Type 0
+Determined-part {n} ps Post =
+    (κs : Lfts (suc n)) (a : Dens κs ps) (e f : Ending ps PartLent κs a)
     → Fulfils ps PartLent Post κs a e
     → Fulfils ps PartLent Post κs a f
     → (now (e .0) ≡ now (f .0)) × (e .1 ≡ f .1)
 
 -- where the contract tells where it stands in memory, too, both are equal [C1]
-abbrev pub Determined-address : (ps : List (PK 1)) → Out 1 ps PartLent → Type 0
-Determined-address ps Post =
-    (κs : Lfts 1) (a : Dens κs ps) (e f : Ending ps PartLent κs a)
+abbrev pub Determined-address : {n : ℕ} (ps : List (PK (suc n))) → Out (suc n) ps PartLent → Type 0
+Determined-address {n} ps Post =
+    (κs : Lfts (suc n)) (a : Dens κs ps) (e f : Ending ps PartLent κs a)
     → Fulfils ps PartLent Post κs a e
     → Fulfils ps PartLent Post κs a f
     → (now (e .0) ≡ now (f .0)) × (ptr (e .0) ≡ ptr (f .0)) × (e .1 ≡ f .1)

@@ -1,4 +1,4 @@
-// Bytes that are lent: one read, a run of them stored. Every place and every length is allowed.
+// Bytes that are lent: one read, a part of them, a run of them stored. Every place and every length is allowed.
 pub mod natural;
 
 ghost use mathlib.Core.Path.{_≡_};
@@ -6,6 +6,7 @@ ghost use Prim.Native.Nat.{_+_, _≤_, _<_};
 ghost use lib.ListN.{length, getD};
 ghost use lib.Seq.{sets};
 ghost use Rattle.base.specs.Bytes.{part as partOf, putFits as fitsAt, put as putAt};
+ghost use Rattle.base.specs.Lent.{CutOf};
 
 // The byte at i, and 0 past the end.
 pub fn byte(s: &[u8], i: usize) -> usize
@@ -27,6 +28,20 @@ pub fn part(s: &[u8], a: usize, n: usize) -> &[u8]
     }
     if l - a < n {
         return &s[a..];
+    }
+    let e = a + n;
+    &s[a..e]
+}
+
+// The n bytes from `a` on, as that very part of s; the empty part at its start where s has not all of them.
+pub fn cut(s: &[u8], a: usize, n: usize) -> &[u8]
+    ensures { λ r. ⌜ CutOf (s .entry) a n r ⌝ }
+{
+    if s.len() < a {
+        return &s[0..0];
+    }
+    if s.len() - a < n {
+        return &s[0..0];
     }
     let e = a + n;
     &s[a..e]

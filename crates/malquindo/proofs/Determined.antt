@@ -13,6 +13,12 @@ use Rattle.malquindo.proofs.malquindo_file.Kinds as malquindo-file-kind
 use Rattle.malquindo.proofs.malquindo_file.Reads as malquindo-file-reads
 use Rattle.malquindo.proofs.malquindo_certificate.Kinds as malquindo-certificate-kinds
 use Rattle.malquindo.proofs.malquindo_certificate.Reads as malquindo-certificate-reads
+use Rattle.malquindo.proofs.malquindo_index_build.Kinds as malquindo-index-build-kinds
+use Rattle.malquindo.proofs.malquindo_index_build.Reads as malquindo-index-build-reads
+use Rattle.malquindo.proofs.malquindo_index_extend.Kinds as malquindo-index-extend-kinds
+use Rattle.malquindo.proofs.malquindo_index_extend.Reads as malquindo-index-extend-reads
+use Rattle.malquindo.proofs.malquindo_index_read.Kinds as malquindo-index-read-kinds
+use Rattle.malquindo.proofs.malquindo_index_read.Reads as malquindo-index-read-reads
 
 pub malquindo-session-len-determined : Determined malquindo-session-len-kinds.ps malquindo-session-len-kinds.r malquindo-session-len-reads.Post
 malquindo-session-len-determined κs a e f p q i = ((p ∙ sym q) i, e .1)
@@ -31,3 +37,12 @@ malquindo-file-determined κs a e f p q i = ((p ∙ sym q) i, e .1)
 
 pub malquindo-certificate-determined : Determined malquindo-certificate-kinds.ps malquindo-certificate-kinds.r malquindo-certificate-reads.Post
 malquindo-certificate-determined κs a e f p q i = ((p ∙ sym q) i, e .1)
+
+pub malquindo-index-build-determined : Determined malquindo-index-build-kinds.ps malquindo-index-build-kinds.r malquindo-index-build-reads.Post
+malquindo-index-build-determined κs a e f p q i = ((p .0 ∙ sym (q .0)) i, (tt, (tt, ((p .1 ∙ sym (q .1)) i, tt))))
+
+pub malquindo-index-extend-determined : Determined malquindo-index-extend-kinds.ps malquindo-index-extend-kinds.r malquindo-index-extend-reads.Post
+malquindo-index-extend-determined κs a e f p q i = ((p .0 ∙ sym (q .0)) i, (tt, (tt, ((p .1 ∙ sym (q .1)) i, (tt, tt)))))
+
+pub malquindo-index-read-determined : Determined malquindo-index-read-kinds.ps malquindo-index-read-kinds.r malquindo-index-read-reads.Post
+malquindo-index-read-determined κs a e f p q i = ((p ∙ sym q) i, e .1)

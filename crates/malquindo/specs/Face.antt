@@ -20,6 +20,8 @@ use Rattle.store_image.specs.declared.Found.{Found}
 use Rattle.store_image.specs.declared.Found.the-variants.{At, Missing}
 use Rattle.store_certificates.specs.Certificates.{certificateRefusal, whichBody, certificateStretch}
 use Rattle.store_certificates.specs.declared.Located.{Located}
+use Rattle.store_index.specs.Index.{indexRefusal, indexCount}
+use Rattle.store_index.specs.declared.Indexed.{Indexed}
 use Rattle.store_move.specs.Moving.{moveRefusalNumber}
 use Rattle.store_move.specs.declared.Moved.{Moved}
 use Rattle.store_move.specs.declared.Moved.the-variants.{Image, Refused as MoveRefused}
@@ -87,3 +89,7 @@ fileResult img k = ifElse (wellFormed img) (foundResult (find img k)) 0
 unfoldable pub certificateResult : Located → ℕ
 certificateResult l =
     certificateRefusal l * 4294967296 + whichBody l * 268435456 + certificateStretch l .start % 262144 * 1024 + certificateStretch l .length % 1024
+
+-- of an index: refusal · 2^32 + how many places, or how many bytes; either is below 65,536 [X13]
+unfoldable pub indexResult : Indexed → ℕ
+indexResult a = indexRefusal a * 4294967296 + indexCount a

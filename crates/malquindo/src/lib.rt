@@ -7,6 +7,7 @@ use machine_session::Verdict;
 use store_certificates::Located;
 use store_certificates::Stretch;
 use store_image::Found;
+use store_index::Indexed;
 use store_move::MoveRefusal;
 use store_move::Moved;
 ghost use mathlib.Core.Path.{_≡_};
@@ -14,8 +15,9 @@ ghost use Prim.Native.Nat.{_≤_};
 ghost use Rattle.machine_session.specs.Verdict.{refusalNumber, verdictNumber};
 ghost use lib.ListN.{length};
 ghost use Rattle.store_certificates.specs.Certificates.{located, certificateRefusal, whichBody, certificateStretch};
+ghost use Rattle.store_index.specs.Index.{build, buildInto, extend, extendInto, measure};
 ghost use Rattle.store_move.specs.Moving.{moveRefusalNumber, moveCard, moveCardInto};
-ghost use Rattle.malquindo.specs.Face.{moveResult, resultOf, openingVerdict, openResult, openSession, sessionAfter, calledAs, called, foundResult, fileResult, certificateResult};
+ghost use Rattle.malquindo.specs.Face.{moveResult, resultOf, openingVerdict, openResult, openSession, sessionAfter, calledAs, called, foundResult, fileResult, certificateResult, indexResult};
 
 fn refusal_number(r: Refusal) -> u64
     ensures { λ n. ⌜ (n ≡ refusalNumber r) × (n ≤ 4) ⌝ }
@@ -226,4 +228,45 @@ pub extern "C" fn malquindo_certificate(card: &[u8], desk: &[u8], reference: u8)
     ensures { λ r. ⌜ r ≡ certificateResult (located (now (card .entry)) (now (desk .entry)) reference) ⌝ }
 {
     certificate_result(store_certificates::locate(card, desk, reference))
+}
+
+// An index's refusal, or how many places or bytes, in one.
+fn index_result(a: Indexed) -> u64
+    ensures { λ r. ⌜ r ≡ indexResult a ⌝ }
+{
+    match a {
+        Indexed::Counted(n) => n as u64,
+        Indexed::Refused => 6 * 4294967296,
+    }
+}
+
+// Builds an index of the records of a file's body.
+#[no_mangle]
+pub extern "C" fn malquindo_index_build(kind: u16, body: &[u8], places: &mut [u32]) -> u64
+    ensures { λ r. ⌜ (r ≡ indexResult (build kind (now (body .entry)) (now (places .entry)))) × (now (places .exit) ≡ buildInto kind (now (body .entry)) (now (places .entry))) ⌝ }
+{
+    let a = store_index::build(kind as usize, body, places);
+    index_result(a)
+}
+
+// Extends an index of n places after an append.
+#[no_mangle]
+pub extern "C" fn malquindo_index_extend(
+    kind: u16,
+    body: &[u8],
+    places: &mut [u32],
+    n: usize,
+) -> u64
+    ensures { λ r. ⌜ (r ≡ indexResult (extend kind (now (body .entry)) (now (places .entry)) n)) × (now (places .exit) ≡ extendInto kind (now (body .entry)) (now (places .entry)) n) ⌝ }
+{
+    let a = store_index::extend(kind as usize, body, places, n);
+    index_result(a)
+}
+
+// The length of the record of a number, by its place in an index.
+#[no_mangle]
+pub extern "C" fn malquindo_index_read(body: &[u8], places: &[u32], number: usize) -> u64
+    ensures { λ r. ⌜ r ≡ indexResult (measure (now (body .entry)) (now (places .entry)) number) ⌝ }
+{
+    index_result(store_index::measure(body, places, number))
 }

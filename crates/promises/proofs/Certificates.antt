@@ -1,142 +1,31 @@
--- The certificate that a stamp names: what the results of `malquindo_file` and `malquindo_certificate` tell, and that a certificate stays over
--- any calls. Read before: ../specs/Certificates.antt, proofs/Locating.antt of store_certificates. Exports `c-file`, `c-file-stays`,
--- `c-certificate`, `c-certificate-kept`.
-use Prim.Native.Nat.{ℕ, zero, suc, _+_, _-_, _*_, _%_, _≤_, _<_}
+-- The certificate that a stamp names: what the result of `malquindo_certificate` tells, and that a certificate stays over any calls. Read before:
+-- ../specs/Certificates.antt, Bodies.antt, proofs/Locating.antt of store_certificates. Exports `c-certificate`, `c-certificate-kept`.
+use Prim.Native.Nat.{ℕ, _+_, _-_, _*_, _%_, _≤_, _<_}
 use mathlib.Core.Path.{_≡_, refl, sym, ap, ap₂, _∙_}
 use mathlib.Core.Bool.{true, false, _&&_, and-true}
 use mathlib.Core.List.{List, [], _∷_, _++_, List·Memᴰ·head, List·Memᴰ·tail}
 use native.Mathlib.Omega.{arith}
-use native.Mathlib.Nat.{mod-eq-of-lt}
 use lib.ListN.{length}
-use lib.Dec.{eqb}
-use borrow.Author.Tests.{leb-true}
 use Rattle.base.specs.Choice.{allOf}
 use Rattle.base.specs.Bytes.{part}
-use Rattle.base.proofs.Cases.{false-true, by-cases, ifElse-ind, allOf-facts}
+use Rattle.base.proofs.Cases.{false-true, by-cases}
 use Rattle.store_records.specs.Body.{records, nth, bodyOk}
 use Rattle.store_records.proofs.Bodies.{bodyOk-facts, bodyOk-short, records-length}
-use Rattle.store_kinds.specs.Rules.{isBiometrics, biometricsKind}
-use Rattle.store_image.specs.Image.{lenAt, kindAt, find, has, body, recordsOf, wellFormed}
-use Rattle.store_image.specs.declared.Found.{Found}
-use Rattle.store_image.specs.declared.Found.the-variants.{At, Missing}
-use Rattle.store_image.proofs.Laws.{found-inside, found-head, found-body, has-found, has-missing, body-wellFormed, body-lacking, append-find, update-find, activate-find}
+use Rattle.store_kinds.specs.Rules.{isBiometrics}
+use Rattle.store_image.specs.Image.{has, body, recordsOf, wellFormed}
+use Rattle.store_image.proofs.Laws.{body-wellFormed, body-lacking}
 use Rattle.store_certificates.specs.Certificates.{certificatesOk, hasNumber, located, whichBody}
 use Rattle.store_certificates.specs.declared.Stretch.{Stretch}
 use Rattle.store_certificates.specs.declared.Located.{Located}
 use Rattle.store_certificates.specs.declared.Located.the-variants.{Card, Desk, Missing as NotThere, Refused}
 use Rattle.store_certificates.proofs.Locating.{certificatesOk-bodyOk, hasNumber-accepted, hasNumber-facts, Stands, BothOk, Told, told}
 use Rattle.store_certificates.proofs.Keeping.{located-kept}
-use Rattle.machine_session.specs.declared.Session.{Session}
-use Rattle.machine_session.specs.declared.Verdict.{Verdict}
-use Rattle.machine_session.specs.declared.Verdict.the-variants.{Accepted, Refused as NotTaken}
-use Rattle.machine_record.specs.SearchRecord.{searchStatus}
-use Rattle.machine_dispatch.specs.Decide.{decide, dataOf}
-use Rattle.machine_action.specs.declared.Action.{Action}
-use Rattle.machine_action.specs.declared.Action.the-variants.{Status, SelectApplication, SelectFile, ReadBinary, UpdateBinary, Activate, AppendRecord, ReadRecord, SearchRecord, Report}
-use Rattle.machine_answer.specs.Outcome.{Outcome, says}
-use Rattle.machine.specs.Effects.{searched, done}
-use Rattle.machine.specs.Step.{verdictOn, stepBy, step}
-use Rattle.machine_session_bytes.specs.Layout.{isSession, sessionIn}
-use Rattle.malquindo.specs.Face.{Called, malformed, called, foundResult, fileResult, certificateResult}
-use Rattle.promises.specs.Linked.{refusalIn, CCall, CommandC, afterCallC, afterC, additionsC, historyC}
-use Rattle.promises.specs.Certificates.{filePlaceIn, fileLengthIn, whichIn, certificatePlaceIn, certificateLengthIn, FileC, C-file, C-file-stays, IsNumber, certificateBytes, StandsC, CertificateC, C-certificate, cardBody, certificateOn, C-certificate-kept}
+use Rattle.malquindo.specs.Face.{certificateResult}
+use Rattle.promises.specs.Linked.{refusalIn, CCall, afterC, additionsC}
+use Rattle.promises.specs.Bodies.{IsNumber}
+use Rattle.promises.specs.Certificates.{whichIn, certificatePlaceIn, certificateLengthIn, certificateBytes, StandsC, CertificateC, C-certificate, cardBody, certificateOn, C-certificate-kept}
 use Rattle.promises.proofs.Calling.{c-holds}
-
--- ---- where a file's body stands
-
-image-short : (img : List ℕ) → wellFormed img ≡ true → length img ≤ 262144
-unfolding wellFormed
-image-short img o = leb-true _ _ (allOf-facts _ o .0)
-
--- the two numbers of a result
-file-place : (s n r : ℕ) → n < 4294967296 → r ≡ s * 4294967296 + n → filePlaceIn r ≡ s
-unfolding filePlaceIn
-file-place s n r h e = omega arith
-
-file-length : (s n r : ℕ) → n < 4294967296 → r ≡ s * 4294967296 + n → fileLengthIn r ≡ n
-unfolding fileLengthIn
-file-length s n r h e = omega arith
-
-module _ (img : List ℕ) (k r : ℕ) where
-  file-none : r ≡ 0 → (wellFormed img ≡ true → has img k ≡ true → ⊥) → FileC img k r
-  unfolding filePlaceIn fileLengthIn
-  file-none z f =
-      record {
-        there-complete = λ o h. absurd (f o h);
-        there-sound = λ h. absurd (omega arith);
-        stands = λ h. absurd (omega arith);
-        within = omega arith;
-        bytes = λ h. absurd (omega arith);
-        head = λ h. absurd (omega arith);
-      }
-
-  file-at : (s n : ℕ) → wellFormed img ≡ true → find img k ≡ At s n → r ≡ foundResult (At s n) → FileC img k r
-  file-at s n o e f =
-      let i = found-inside img k s n e in
-      let h = found-head img k s n e in
-      let m = image-short img o in
-      let q : r ≡ s * 4294967296 + n = f ∙ ap₂ (λ (x y : ℕ). x * 4294967296 + y) (mod-eq-of-lt (omega arith)) (mod-eq-of-lt (omega arith)) in
-      let p = file-place s n r (omega arith) q in
-      let l = file-length s n r (omega arith) q in
-      record {
-        there-complete = λ _ _. omega (arith, h .0);
-        there-sound = λ _. (o, has-found img k s n e);
-        stands = λ _. e ∙ ap₂ (λ (x y : ℕ). At x y) (sym p) (sym l);
-        within = omega arith;
-        bytes = λ _. ap₂ (λ (x y : ℕ). part img x y) p l ∙ sym (found-body img k s n e);
-        head = λ _. (omega (arith, h .0), ap (λ (x : ℕ). lenAt img (x - 6)) p ∙ h .1 ∙ sym l, ap (λ (x : ℕ). kindAt img (x - 6)) p ∙ h .2);
-      }
-
-pub c-file : C-file
-unfolding fileResult
-c-file img k = by-cases (wellFormed img) (λ o. go o (find img k) refl) (λ o. file-none img k _ (simp o) (λ t _. false-true (sym o ∙ t)))
-  where
-    go : wellFormed img ≡ true → (f : Found) → find img k ≡ f → FileC img k (fileResult img k)
-    go o (At s n) e = file-at img k _ s n o e (simp (o, e))
-    go o Missing e = file-none img k _ (simp (o, e)) (λ _ h. false-true (sym (has-missing img k e) ∙ h))
-
--- what is not there is told as 0
-none-told : (r : ℕ) → (1 ≤ r → ⊥) → r ≡ 0
-none-told zero f = refl
-none-told (suc r) f = absurd (f (omega arith))
-
-file-lacking : (img : List ℕ) (k : ℕ) → has img k ≡ false → fileResult img k ≡ 0
-file-lacking img k h = none-told (fileResult img k) (λ g. false-true (sym h ∙ c-file img k .there-sound g .1))
-
--- ---- a command leaves every body where it is
-
-module _ (img : List ℕ) (s : Session) (buf : List ℕ) (k : ℕ) where
-  done-find : (x : Action) (d : List ℕ) → find (done x img s d buf .image) k ≡ find img k
-  unfolding done says searched
-  done-find (Status w) d = refl
-  done-find (SelectApplication a) d = refl
-  done-find (SelectFile f) d = refl
-  done-find (ReadBinary t o n) d = refl
-  done-find (UpdateBinary n w) d = update-find img (biometricsKind n) (w .offset) (part d (w .bytes .at) (w .bytes .len)) k
-  done-find (Activate n) d = activate-find img (biometricsKind n) k
-  done-find (AppendRecord r) d = append-find img (r .kind) d k
-  done-find (ReadRecord r a b) d = refl
-  done-find (SearchRecord r q ne) d =
-      ifElse-ind (λ (x : Outcome). find (x .image) k ≡ find img k) (eqb (searchStatus (recordsOf img (r .kind)) d q ne) 0x9000) (λ e. refl) (λ e. refl)
-  done-find (Report f p2) d = refl
-
-  stepBy-find : (v : Verdict) (cmd : List ℕ) → find (stepBy v img s cmd buf .image) k ≡ find img k
-  unfolding stepBy
-  stepBy-find Accepted cmd = done-find (decide img s cmd) (dataOf cmd)
-  stepBy-find (NotTaken r) cmd = refl
-
-called-find : (img ses cmd buf : List ℕ) (k : ℕ) → find (called img ses cmd buf .image) k ≡ find img k
-unfolding called malformed step
-called-find img ses cmd buf k =
-    ifElse-ind (λ (c : Called). find (c .image) k ≡ find img k) (isSession ses)
-    (λ _. stepBy-find img (sessionIn ses) buf k (verdictOn img (sessionIn ses) (length buf)) cmd)
-    (λ _. refl)
-
-pub c-file-stays : C-file-stays
-unfolding fileResult afterC afterCallC
-c-file-stays img ses cmd buf k o =
-    let w : wellFormed (called img ses cmd buf .image) ≡ true = c-holds img (CommandC ses cmd buf ∷ []) o .well in
-    simp (o, w, called-find img ses cmd buf k)
+use Rattle.promises.proofs.Bodies.{lentBody-is, lent-records, lent-grown, afterC-append}
 
 -- ---- the numbers of a result
 
@@ -292,25 +181,16 @@ c-certificate card desk n = go (located card desk n) (told card desk n (located 
 
 -- the card's body, taken as a program takes it
 cardBody-is : (img : List ℕ) → wellFormed img ≡ true → cardBody img ≡ body img 0x011A
-unfolding cardBody filePlaceIn fileLengthIn
-cardBody-is img o =
-    let f = c-file img 0x011A in
-    by-cases (has img 0x011A)
-    (λ h. f .bytes (f .there-complete o h))
-    (λ h. rw (file-lacking img 0x011A h) (sym (body-lacking img 0x011A h)))
+unfolding cardBody
+cardBody-is img o = lentBody-is img 0x011A o
 
 -- its records are those of the file
 card-records : (img : List ℕ) → wellFormed img ≡ true → records (cardBody img) ≡ recordsOf img 0x011A
-unfolding recordsOf
-card-records img o = ap records (cardBody-is img o)
+unfolding cardBody
+card-records img o = lent-records img 0x011A o
 
 certificates-records : isBiometrics 0x011A ≡ false
 certificates-records = unfold isBiometrics allOf in refl
-
-afterC-append : (img : List ℕ) (cs ds : List CCall) → afterC img (cs ++ ds) ≡ afterC (afterC img cs) ds
-unfolding afterC
-afterC-append img [] ds = refl
-afterC-append img (c ∷ cs) ds = afterC-append (afterCallC img c) cs ds
 
 -- no bytes are no body of certificates
 empty-refused : certificatesOk [] ≡ false
@@ -335,14 +215,8 @@ only-card Refused e = absurd (omega (arith, which-read Refused))
 -- over further calls the list of certificates goes on
 card-grown : (img : List ℕ) (calls : List CCall) → wellFormed img ≡ true
     → (more : List (List ℕ)) × (records (cardBody (afterC img calls)) ≡ records (cardBody img) ++ more)
-unfolding historyC
-card-grown img calls o =
-    let h = c-holds img calls o in (
-      additionsC 0x011A img calls,
-      card-records (afterC img calls) (h .well)
-          ∙ h .records 0x011A certificates-records
-          ∙ ap (λ (rs : List (List ℕ)). rs ++ additionsC 0x011A img calls) (sym (card-records img o)),
-    )
+unfolding cardBody
+card-grown img calls o = (additionsC 0x011A img calls, lent-grown img 0x011A calls o certificates-records)
 
 -- what a result that names the card tells of its bytes
 card-bytes : (xs : List ℕ) (s : Stretch) → s .start < 262144 → s .length < 1024 → certificateBytes xs (certificateResult (Card s)) ≡ part xs (s .start) (s .length)

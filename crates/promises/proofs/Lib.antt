@@ -15,5 +15,7 @@ pub mod Doing
 pub mod Fitting
 pub mod Linking
 pub mod Calling
+pub mod Bodies
 pub mod Certificates
+pub mod Index
 pub mod Promises

@@ -1,8 +1,11 @@
--- The theorems: each proves the promise of its name in ../specs/Promises.antt, Done.antt, Linked.antt or Certificates.antt.
+-- The theorems: each proves the promise of its name in ../specs/Promises.antt, Done.antt, Linked.antt, Bodies.antt,
+-- Certificates.antt or Index.antt.
 use Rattle.promises.specs.Promises.{Says-no, Gets-word, Opens, Holds, Number-kept, Reads-history, Leaves-none-out, Only-searches, Search-refused, Both-spellings, Stays-accepted, Answer-fits, Opening-fits, Session-bytes, Opening-bytes, Result-whole, Move-says-no, Move-done, Same-sizes, Move-twice, Move-whole}
 use Rattle.promises.specs.Done.{Append-done, Update-done, Activate-done, Read-done, Select-done, Fmm-done}
 use Rattle.promises.specs.Linked.{C-sees, C-malformed, C-says-no, C-gets-word, C-holds, C-number-kept, C-reads-history, C-leaves-none-out, C-opens, C-moves}
-use Rattle.promises.specs.Certificates.{C-file, C-file-stays, C-certificate, C-certificate-kept}
+use Rattle.promises.specs.Bodies.{C-file, C-file-stays}
+use Rattle.promises.specs.Certificates.{C-certificate, C-certificate-kept}
+use Rattle.promises.specs.Index.{C-index-builds, C-index-extends, C-index-reads, C-index-kept, C-index-replies}
 use Rattle.promises.proofs.Keeping.{step-kept}
 use Rattle.promises.proofs.Opening.{opening-opened}
 use Rattle.store_move.proofs.Moves.{moveCard-numbered}
@@ -18,7 +21,9 @@ use Rattle.promises.proofs.Spelling as spelling
 use Rattle.promises.proofs.Fitting as fitting
 use Rattle.promises.proofs.Linking as linking
 use Rattle.promises.proofs.Calling as calling
+use Rattle.promises.proofs.Bodies as bodies
 use Rattle.promises.proofs.Certificates as certificates
+use Rattle.promises.proofs.Index as index
 
 pub says-no : Says-no
 says-no = step-kept
@@ -132,13 +137,28 @@ pub c-moves : C-moves
 c-moves = calling.c-moves
 
 pub c-file : C-file
-c-file = certificates.c-file
+c-file = bodies.c-file
 
 pub c-file-stays : C-file-stays
-c-file-stays = certificates.c-file-stays
+c-file-stays = bodies.c-file-stays
 
 pub c-certificate : C-certificate
 c-certificate = certificates.c-certificate
 
 pub c-certificate-kept : C-certificate-kept
 c-certificate-kept = certificates.c-certificate-kept
+
+pub c-index-builds : C-index-builds
+c-index-builds = index.c-index-builds
+
+pub c-index-extends : C-index-extends
+c-index-extends = index.c-index-extends
+
+pub c-index-reads : C-index-reads
+c-index-reads = index.c-index-reads
+
+pub c-index-kept : C-index-kept
+c-index-kept = index.c-index-kept
+
+pub c-index-replies : C-index-replies
+c-index-replies = index.c-index-replies

@@ -1,6 +1,6 @@
 -- The certificate that a stamp names, as a desk asks for it: `malquindo_file` tells where the card's body of travel certificates stands, and
 -- `malquindo_certificate` looks for the number there and in the desk's own copy. Each promise is a type; the theorem of the same name is in
--- ../proofs/Promises.antt. Read before: Linked.antt.
+-- ../proofs/Promises.antt. Read before: Linked.antt, Bodies.antt.
 use Prim.Native.Nat.{ℕ, _+_, _-_, _*_, _/_, _%_, _≤_}
 use mathlib.Core.Path.{_≡_}
 use mathlib.Core.Bool.{true, false, _&&_}
@@ -8,21 +8,13 @@ use mathlib.Core.List.{List, [], _∷_, _++_, List·Memᴰ}
 use lib.ListN.{length}
 use Rattle.base.specs.Bytes.{part}
 use Rattle.store_records.specs.Body.{place, records, nth, bodyOk}
-use Rattle.store_image.specs.Image.{lenAt, kindAt, find, has, body, wellFormed}
-use Rattle.store_image.specs.declared.Found.the-variants.{At}
+use Rattle.store_image.specs.Image.{wellFormed}
 use Rattle.store_certificates.specs.Certificates.{located}
-use Rattle.malquindo.specs.Face.{called, fileResult, certificateResult}
+use Rattle.malquindo.specs.Face.{certificateResult}
 use Rattle.promises.specs.Linked.{refusalIn, CCall, afterC, historyC}
+use Rattle.promises.specs.Bodies.{lentBody, IsNumber}
 
--- ---- results: `malquindo_file_place`, `malquindo_file_length`; `malquindo_certificate_which`, `…_place`, `…_length`
-
--- [X11]
-unfoldable pub filePlaceIn : ℕ → ℕ
-filePlaceIn r = r / 4294967296
-
--- [X11]
-unfoldable pub fileLengthIn : ℕ → ℕ
-fileLengthIn r = r % 4294967296
+-- ---- results: `malquindo_certificate_which`, `…_place`, `…_length`
 
 -- [X12]
 unfoldable pub whichIn : ℕ → ℕ
@@ -36,33 +28,7 @@ certificatePlaceIn r = r / 1024 % 262144
 unfoldable pub certificateLengthIn : ℕ → ℕ
 certificateLengthIn r = r % 1024
 
--- ---- where a file's body stands
-
--- what the result r of `malquindo_file` tells of the file of kind k [X11]
-pub record FileC (img : List ℕ) (k r : ℕ) : Type 0 where
-  -- 0 exactly where the file is not there, or the image is not well formed
-  pub there-complete : wellFormed img ≡ true → has img k ≡ true → 1 ≤ r
-  pub there-sound : 1 ≤ r → (wellFormed img ≡ true) × (has img k ≡ true)
-  -- place and length are those of the section of kind k, within the image, and not of bytes elsewhere that look like it
-  pub stands : 1 ≤ r → find img k ≡ At (filePlaceIn r) (fileLengthIn r)
-  pub within : filePlaceIn r + fileLengthIn r ≤ length img
-  pub bytes : 1 ≤ r → part img (filePlaceIn r) (fileLengthIn r) ≡ body img k
-  -- the length and the kind stand in the six bytes before the body
-  pub head : 1 ≤ r → (6 ≤ filePlaceIn r) × (lenAt img (filePlaceIn r - 6) ≡ fileLengthIn r) × (kindAt img (filePlaceIn r - 6) ≡ k)
-
--- [X11]
-abbrev pub C-file : Type 0
-C-file = (img : List ℕ) (k : ℕ) → FileC img k (fileResult img k)
-
--- a command leaves every body where it is, and as long [X11]
-abbrev pub C-file-stays : Type 0
-C-file-stays = (img ses cmd buf : List ℕ) (k : ℕ) → wellFormed img ≡ true → fileResult (called img ses cmd buf .image) k ≡ fileResult img k
-
 -- ---- which certificate it is
-
--- n is the number of a record of the body xs [P3]
-abbrev pub IsNumber : List ℕ → ℕ → Type 0
-IsNumber xs n = (1 ≤ n) × (n ≤ length (records xs))
 
 -- the bytes of a body that the result r tells [X12]
 unfoldable pub certificateBytes : List ℕ → ℕ → List ℕ
@@ -105,7 +71,7 @@ C-certificate = (card desk : List ℕ) (n : ℕ) → CertificateC card desk n (c
 
 -- the card's body of travel certificates, where `malquindo_file` tells that it stands [P1] [X11]
 unfoldable pub cardBody : List ℕ → List ℕ
-cardBody img = part img (filePlaceIn (fileResult img 0x011A)) (fileLengthIn (fileResult img 0x011A))
+cardBody img = lentBody img 0x011A
 
 -- what `malquindo_certificate` answers for that body, the desk's body and the reference n [P1] [X12]
 unfoldable pub certificateOn : List ℕ → List ℕ → ℕ → ℕ

@@ -6,4 +6,6 @@ pub mod Matches
 pub mod Promises
 pub mod Done
 pub mod Linked
+pub mod Bodies
 pub mod Certificates
+pub mod Index

@@ -2,7 +2,7 @@
 -- Read before: specs/Certificates.antt. Exports: `certificatesOk-bodyOk`; `hasNumber-…` (a number and a count); `Stands`, `stands` (a record is
 -- whole in its body, and place and length are small); `stretchOf-is` (the same, as the code has it); `located-…` (the answer by the tests, in
 -- their order); `BothOk`, `Told`, `told` (what an answer tells); `card-part`, `desk-part`, `missing-part`, `refused-part` (what is returned).
-use Prim.Native.Nat.{ℕ, zero, suc, _+_, _*_, _-_, _≤_, _<_, min}
+use Prim.Native.Nat.{ℕ, _+_, _-_, _≤_, _<_, min}
 use mathlib.Core.Path.{_≡_, refl, sym, ap, _∙_, subst}
 use mathlib.Core.Bool.{true, false, and-true, and-false}
 use mathlib.Core.List.{List, [], _∷_}
@@ -13,13 +13,17 @@ use borrow.Author.Tests.{lt-leb, le-leb, leb-true}
 use denote.Ref.{RefT, now}
 use Rattle.base.specs.Choice.{allOf}
 use Rattle.base.specs.Bytes.{part}
-use Rattle.base.specs.Lent.{PartOf}
-use Rattle.base.proofs.Cases.{ifElse-ind, allOf-facts, allOf-accepted, and-left, and-right}
+use Rattle.base.specs.Lent.{CutOf}
+use Rattle.base.proofs.Cases.{ifElse-ind, allOf-facts, allOf-accepted}
+use Rattle.base.proofs.Lending.{cut-part}
 use Rattle.store_records.specs.Little.{le16}
-use Rattle.store_records.specs.Body.{count, place, records, nth, okAt, okTo, bodyOk}
-use Rattle.store_records.proofs.Bodies.{place-le, okAt-facts, okTo-at, bodyOk-facts, nth-at}
+use Rattle.store_records.specs.Body.{count, place, records, nth, bodyOk}
+use Rattle.store_records.proofs.Bodies.{place-lt, okAt-facts, okTo-at, bodyOk-facts, nth-at}
 use Rattle.store_kinds.specs.Rules.{rule, rules, travel, firstRule, ruleOf}
-use Rattle.store_kinds.proofs.ByKind.{kindOk-rule}
+use Rattle.store_kinds.specs.declared.rules.Key.the-variants.{Kind}
+use Rattle.store_kinds.specs.declared.rules.Rule.{Rule}
+use Rattle.store_kinds.specs.declared.rules.Ruled.the-variants.{Is}
+use Rattle.store_kinds.proofs.ByKind.{kindOk-rule, place-small}
 use Rattle.store_certificates.specs.Certificates.{certificatesOk, hasNumber, stretchOf, located, CertificatePart}
 use Rattle.store_certificates.specs.declared.Stretch.{Stretch}
 use Rattle.store_certificates.specs.declared.Located.{Located}
@@ -27,10 +31,18 @@ use Rattle.store_certificates.specs.declared.Located.the-variants.{Card,
 
 -- ---- one body
 
--- the row of the table says how long and how many its records may be
+-- the row of the table
+abbrev certificates : Rule
+certificates = rule 0x011A travel 0x011A 0x1A 929 254
+
+certificates-ruled : ruleOf (Kind 0x011A) ≡ Is certificates
+unfolding ruleOf firstRule rules
+certificates-ruled = refl
+
+-- it says how long and how many the records may be
 pub certificatesOk-bodyOk : (xs : List ℕ) → certificatesOk xs ≡ bodyOk 929 254 xs
 unfolding certificatesOk
-certificatesOk-bodyOk xs = kindOk-rule 0x011A xs (rule 0x011A travel 0x011A 0x1A 929 254) (unfold ruleOf firstRule rules in refl)
+certificatesOk-bodyOk xs = kindOk-rule 0x011A xs certificates certificates-ruled
 
 module _ (xs : List ℕ) (n : ℕ) where
   pub hasNumber-zero : n < 1 → hasNumber xs n ≡ false
@@ -53,15 +65,6 @@ module _ (xs : List ℕ) (n : ℕ) where
   unfolding hasNumber
   hasNumber-facts e = let h = allOf-facts _ e in record { first = leb-true _ _ (h .0); last = leb-true _ _ (h .1 .0) }
 
--- a record has at most 929 bytes and two for its length
-place-small : (xs : List ℕ) (n : ℕ) → okTo 929 xs n ≡ true → place xs n ≤ 2 + n * 931
-unfolding place okTo
-place-small xs zero e = omega arith
-place-small xs (suc n) e =
-    let h = place-small xs n (and-left (okTo 929 xs n) (okAt 929 xs (place xs n)) e) in
-    let k = okAt-facts 929 xs (place xs n) (and-right (okTo 929 xs n) (okAt 929 xs (place xs n)) e) .short in
-    omega arith
-
 -- record n stands whole at s, and place and length have room in 18 and in 10 bits
 pub record Stands (xs : List ℕ) (n : ℕ) (s : Stretch) : Type 0 where
   pub behind : s .start ≡ place xs (n - 1) + 2
@@ -74,15 +77,16 @@ pub record Stands (xs : List ℕ) (n : ℕ) (s : Stretch) : Type 0 where
 pub stands : (xs : List ℕ) (n : ℕ) → certificatesOk xs ≡ true → hasNumber xs n ≡ true → Stands xs n (stretchOf xs n)
 unfolding stretchOf
 stands xs n c h =
-    let b = bodyOk-facts 929 254 xs (sym (certificatesOk-bodyOk xs) ∙ c) in
+    let k = sym (certificatesOk-bodyOk xs) ∙ c in
+    let b = bodyOk-facts 929 254 xs k in
     let a = hasNumber-facts xs n h in
     let i : n - 1 < count xs = omega (arith, a .first, a .last) in
-    let p = place-le xs (n - 1) (count xs) (omega arith) in
-    let q = place-small xs (count xs) (b .all) in
+    let l = place-lt xs (n - 1) (count xs) i in
+    let q = place-small (Kind 0x011A) certificates xs (count xs) certificates-ruled k (omega arith) in
     let o = okAt-facts 929 xs (place xs (n - 1)) (okTo-at 929 xs (n - 1) (count xs) i (b .all)) in
     record {
       behind = refl;
-      start-small = omega (arith, b .few);
+      start-small = omega arith;
       length-small = omega (arith, o .short);
       some = o .some;
       within = o .whole;
@@ -157,14 +161,20 @@ module _ (card desk r : RefT (List ℕ)) (n : ℕ) where
   returned : (l : Located) → Answers l → CertificatePart l n card desk r → Returned
   returned l e p = subst (λ (o : Located). CertificatePart o n card desk r) (sym e) p
 
-  pub card-part : (s : Stretch) → Answers (Card s) → PartOf card (s .start) (s .length) r → Returned
-  card-part s e p = returned (Card s) e (p .bytes ∙ told (now card) (now desk) n (Card s) e .2 .bytes, p)
+  pub card-part : (s : Stretch) → Answers (Card s) → CutOf card (s .start) (s .length) r → Returned
+  card-part s e c =
+      let t = told (now card) (now desk) n (Card s) e .2 in
+      let p = cut-part card (s .start) (s .length) r (t .within) c in
+      returned (Card s) e (p .bytes ∙ t .bytes, p)
 
-  pub desk-part : (s : Stretch) → Answers (Desk s) → PartOf desk (s .start) (s .length) r → Returned
-  desk-part s e p = returned (Desk s) e (p .bytes ∙ told (now card) (now desk) n (Desk s) e .3 .bytes, p)
+  pub desk-part : (s : Stretch) → Answers (Desk s) → CutOf desk (s .start) (s .length) r → Returned
+  desk-part s e c =
+      let t = told (now card) (now desk) n (Desk s) e .3 in
+      let p = cut-part desk (s .start) (s .length) r (t .within) c in
+      returned (Desk s) e (p .bytes ∙ t .bytes, p)
 
-  pub missing-part : Answers Missing → PartOf card 0 0 r → Returned
-  missing-part e p = returned Missing e (p .bytes, p)
+  pub missing-part : Answers Missing → CutOf card 0 0 r → Returned
+  missing-part e c = let p = cut-part card 0 0 r (omega arith) c in returned Missing e (p .bytes, p)
 
-  pub refused-part : Answers Refused → PartOf card 0 0 r → Returned
-  refused-part e p = returned Refused e (p .bytes, p)
+  pub refused-part : Answers Refused → CutOf card 0 0 r → Returned
+  refused-part e c = let p = cut-part card 0 0 r (omega arith) c in returned Refused e (p .bytes, p)

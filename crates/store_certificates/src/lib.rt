@@ -5,9 +5,6 @@ use store_records::body;
 use store_records::little::read16;
 ghost use mathlib.Core.Path.{_≡_};
 ghost use mathlib.Core.Bool.{true};
-ghost use Prim.Native.Nat.{_+_, _≤_};
-ghost use lib.ListN.{length};
-ghost use Rattle.base.specs.Lent.{PartOf};
 ghost use Rattle.store_certificates.specs.Certificates.{certificatesOk, hasNumber, stretchOf, located, CertificatePart};
 
 // Where a certificate stands in its body: its first byte, and how many bytes it has.
@@ -73,23 +70,14 @@ pub fn locate(card: &[u8], desk: &[u8], reference: u8) -> Located
     Located::Missing
 }
 
-// The n bytes of s from `a` on, as the part of s that they are.
-fn cut(s: &[u8], a: usize, n: usize) -> &[u8]
-    requires { ⌜ a + n ≤ length (now s) ⌝ }
-    ensures { λ r. ⌜ PartOf (s .entry) a n r ⌝ }
-{
-    let e = a + n;
-    &s[a..e]
-}
-
 // The certificate, as the part of the card's body or of the desk's body that it is; an empty part where it is missing or refused.
 pub fn named_certificate<'a>(card: &'a [u8], desk: &'a [u8], reference: u8) -> &'a [u8]
     ensures { λ r. ⌜ CertificatePart (located (now (card .entry)) (now (desk .entry)) reference) reference (card .entry) (desk .entry) r ⌝ }
 {
     match locate(card, desk, reference) {
-        Located::Card(s) => cut(card, s.start, s.length),
-        Located::Desk(s) => cut(desk, s.start, s.length),
-        Located::Missing => cut(card, 0, 0),
-        Located::Refused => cut(card, 0, 0),
+        Located::Card(s) => base::cut(card, s.start, s.length),
+        Located::Desk(s) => base::cut(desk, s.start, s.length),
+        Located::Missing => base::cut(card, 0, 0),
+        Located::Refused => base::cut(card, 0, 0),
     }
 }

@@ -3,4 +3,5 @@ pub mod Numbers
 pub mod Bodies
 pub mod Walks
 pub mod Appending
+pub mod Growing
 pub mod Determined

@@ -13,6 +13,11 @@
 // 7, certificates: the first and the last reference (1 byte each), the length of the card's body (4 bytes, little-endian), its bytes, the
 //    length of the desk's body (4 bytes, little-endian), its bytes. A line for each reference from the first to the last: the result, and
 //    the certificate that the store's function returns (`-` where there is none).
+// 8, an index: what is asked (1 byte: 0 to build, 1 to extend, 2 to read), the kind (2 bytes, little-endian), the first and the last number
+//    (8 bytes each, little-endian), how many entries the list has (2 bytes, little-endian), the entries (4 bytes each, little-endian), the length of
+//    the body (4 bytes, little-endian), its bytes. To extend, the first number is how many places the list holds. The line, where it is built or
+//    extended: the result, a hash of the list. Where it is read, a line for each number from the first to the last: the result, and the
+//    record that the store's function returns (`-` where that has no byte).
 use program_console::result;
 use store_records::little::read16;
 use store_records::little::read32;
@@ -35,12 +40,16 @@ fn torn(s: &[u8]) -> Turn {
     }
 }
 
-// FNV-1a in 32 bits.
+// FNV-1a in 32 bits: a hash, and that of one byte more.
+fn hash_byte(h: u64, b: usize) -> u64 {
+    (h ^ (b as u64)) % 4294967296 * 16777619 % 4294967296
+}
+
 fn hash(s: &[u8]) -> u64 {
     let mut h: u64 = 2166136261;
     let mut i = 0;
     while i < s.len() {
-        h = (h ^ (base::byte(s, i) as u64)) % 4294967296 * 16777619 % 4294967296;
+        h = hash_byte(h, base::byte(s, i));
         i += 1;
     }
     h
@@ -258,6 +267,108 @@ fn certificates(s: &[u8], image: usize, session: usize) -> Turn {
     }
 }
 
+// The number of 8 bytes that s starts with.
+fn read64(s: &[u8]) -> usize {
+    read32(s, 0) % 4294967296 + read32(s, 4) % 4294967296 * 4294967296
+}
+
+// A list of places.
+fn no_places() -> [u32; 512]
+    ensures { λ r. ⌜ 512 ≡ length r ⌝ }
+{
+    [0; 512]
+}
+
+// Fills a list from its bytes.
+fn read_places(s: &[u8], places: &mut [u32]) {
+    let mut i = 0;
+    while i < places.len() {
+        places[i] = (read32(s, 4 * i) % 4294967296) as u32;
+        i += 1;
+    }
+}
+
+// A hash, and that of the four bytes of a place more.
+fn hash_place(h: u64, p: usize) -> u64 {
+    let low = hash_byte(hash_byte(h, p % 256), p / 256 % 256);
+    hash_byte(hash_byte(low, p / 65536 % 256), p / 16777216 % 256)
+}
+
+// The hash of a list's bytes.
+fn hash_places(places: &[u32]) -> u64 {
+    let mut h: u64 = 2166136261;
+    let mut i = 0;
+    while i < places.len() {
+        h = hash_place(h, places[i] as usize);
+        i += 1;
+    }
+    h
+}
+
+// The line of a list that is built or extended.
+fn tell_places(r: u64, places: &[u32]) {
+    program_console::number(r);
+    program_console::word(b" ");
+    program_console::number(hash_places(places));
+    program_console::end();
+}
+
+// The line of a record that is read.
+fn tell_record(body: &[u8], places: &[u32], number: usize) {
+    program_console::number(malquindo::malquindo_index_read(body, places, number));
+    program_console::bytes(store_index::read(body, places, number));
+    program_console::end();
+}
+
+// The lines of the numbers from the first to the last.
+fn tell_records(body: &[u8], places: &[u32], first: usize, last: usize) {
+    for n in first..=last {
+        tell_record(body, places, n);
+    }
+}
+
+// What is asked of an index, by what stands before its list, and the list's bytes.
+fn ask_index(head: &[u8], list: &[u8], body: &[u8], places: &mut [u32]) {
+    read_places(list, places);
+    let kind = (read16(head, 1) % 65536) as u16;
+    let first = read64(base::part(head, 3, 8));
+    match base::byte(head, 0) {
+        0 => {
+            let r = malquindo::malquindo_index_build(kind, body, places);
+            tell_places(r, places);
+        }
+        1 => {
+            let r = malquindo::malquindo_index_extend(kind, body, places, first);
+            tell_places(r, places);
+        }
+        _ => tell_records(body, places, first, read64(base::part(head, 11, 8))),
+    }
+}
+
+// An index.
+fn index(s: &[u8], image: usize, session: usize) -> Turn {
+    let n = read16(s, 19);
+    let rest = base::part(s, 21 + 4 * n, s.len());
+    let m = read32(rest, 0);
+    let body = base::part(rest, 4, m);
+    let mut places = no_places();
+    if rest.len() < 4 {
+        return torn(s);
+    }
+    if body.len() < m {
+        return torn(s);
+    }
+    if places.len() < n {
+        return torn(s);
+    }
+    ask_index(s, base::part(s, 21, 4 * n), body, &mut places[..n]);
+    Turn {
+        left: base::natural::saturating_sub(rest.len(), 4 + m),
+        image,
+        session,
+    }
+}
+
 // Answers the case that s starts with.
 fn case(s: &[u8], card: &mut [u8], i: usize, kept: &mut [u8], n: usize) -> Turn {
     let rest = base::part(s, 1, s.len());
@@ -269,6 +380,7 @@ fn case(s: &[u8], card: &mut [u8], i: usize, kept: &mut [u8], n: usize) -> Turn 
         5 => moved(rest, card, i, n),
         6 => file(rest, card, i, n),
         7 => certificates(rest, i, n),
+        8 => index(rest, i, n),
         _ => torn(s),
     }
 }

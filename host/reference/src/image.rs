@@ -192,11 +192,17 @@ impl RecordFile {
         (used <= body.len()).then_some(file)
     }
 
-    /// Reads a body of travel certificates that stands by itself: its first byte is at place 0.
-    /// No image is around it, so it may be longer than any image.
-    pub fn travel_certificates(body: &[u8]) -> Option<Self> {
-        let i = record_rule(TRAVEL_CERTIFICATES_KIND)?;
+    /// Reads a body of a kind that stands by itself: its first byte is at place 0. No image is
+    /// around it, so it may be longer than any image. None where the kind is no record file's or
+    /// the body is not well formed.
+    pub fn alone(kind: u16, body: &[u8]) -> Option<Self> {
+        let i = record_rule(kind)?;
         Self::read(&RECORD_RULES[i], body, 0)
+    }
+
+    /// Reads a body of travel certificates that stands by itself.
+    pub fn travel_certificates(body: &[u8]) -> Option<Self> {
+        Self::alone(TRAVEL_CERTIFICATES_KIND, body)
     }
 
     /// The records in their order, each a part of the image.
@@ -219,6 +225,17 @@ impl RecordFile {
             .sum();
         let start = self.start + 2 + before + 2;
         Some(start..start + records.next()?.len())
+    }
+
+    /// Where the length before each record stands in the image, in the order of the records. The
+    /// first is behind the count, each other one behind the record before it.
+    pub fn length_places<'a>(&self, image: &'a [u8]) -> impl Iterator<Item = usize> + 'a {
+        let first = self.start + 2;
+        self.records(image).scan(first, |next, record| {
+            let place = *next;
+            *next += 2 + record.len();
+            Some(place)
+        })
     }
 
     /// The whole body, with the bytes that are free.
@@ -259,7 +276,14 @@ impl RecordFile {
     }
 }
 
-/// Walks over the records of a checked body.
+/// The record whose length stands at a place of some bytes, whatever they are. It may be empty,
+/// and longer than any file's records. None where the length or the record leaves the bytes.
+pub fn record_at(bytes: &[u8], place: usize) -> Option<&[u8]> {
+    let rest = bytes.get(place..)?;
+    Records { rest }.next()
+}
+
+/// Walks over records that stand one behind the other.
 pub struct Records<'a> {
     rest: &'a [u8],
 }

@@ -11,7 +11,8 @@
 //! - `search`: whether a string occurs in a window;
 //! - `commands`: the eight commands;
 //! - `moving`: the move of a card to rooms of other sizes;
-//! - `certificates`: the certificate that a stamp names, on the card or in the desk's copy.
+//! - `certificates`: the certificate that a stamp names, on the card or in the desk's copy;
+//! - `index`: the places of a body's records, kept to read a record without a walk.
 
 #![forbid(unsafe_code)]
 
@@ -19,6 +20,7 @@ mod apdu;
 mod certificates;
 mod commands;
 mod image;
+mod index;
 mod moving;
 mod objects;
 mod rights;
@@ -37,13 +39,15 @@ pub const SESSION_LEN: usize = 25;
 /// The shortest response buffer that a command takes.
 const SHORTEST_RESPONSE: usize = 2_050;
 
-/// Why a call gets no status word. 9 is of a stamp's certificate, the last four are of a move.
+/// Why a call gets no status word. 6 is of an index, 9 of a stamp's certificate, the last four are
+/// of a move.
 #[derive(Clone, Copy)]
 enum Refusal {
     Response = 1,
     Image = 2,
     Rights = 3,
     Session = 4,
+    Index = 6,
     Certificates = 9,
     List = 10,
     Missing = 11,
@@ -136,6 +140,45 @@ pub fn certificate(card: &[u8], desk: &[u8], reference: u8) -> u64 {
             (which << 28) | ((place.start as u64) << 10) | place.len() as u64
         }
         Ok(None) => 0,
+        Err(refusal) => refusal.result(),
+    }
+}
+
+/// Builds an index of a record body: fills the list's first entries with the places of the
+/// records, one for each. A place is where a record's length stands in the body.
+///
+/// Refusal 6 is for a kind that is no record file's, a body not well formed for its kind, and a
+/// list of fewer entries than records. All of the list stays then; else the entries behind those
+/// filled do. The result is refusal * 2^32 + places filled.
+pub fn index_build(kind: u16, body: &[u8], places: &mut [u32]) -> u64 {
+    match index::build(kind, body, places) {
+        Ok(filled) => filled as u64,
+        Err(refusal) => refusal.result(),
+    }
+}
+
+/// Extends an index of n places after an append: puts the place of record n + 1 behind them.
+/// Building gives the same place. All other entries stay, and none is read.
+///
+/// Refusal 6 is for what building refuses in kind and body, for an n that is not one below the
+/// count, and for a list of fewer than n + 1 entries. All of the list stays then. The result is
+/// refusal * 2^32 + n + 1.
+pub fn index_extend(kind: u16, body: &[u8], places: &mut [u32], n: usize) -> u64 {
+    match index::extend(kind, body, places, n) {
+        Ok(held) => held as u64,
+        Err(refusal) => refusal.result(),
+    }
+}
+
+/// The record of a number, from 1, by its place in the list alone. The body need not be well
+/// formed: a record is what the length at its place says, one of no bytes too.
+///
+/// Refusal 6 is for number 0, for a number above the list's length, and for a place whose length
+/// or record leaves the body. The result is refusal * 2^32 + length of the record, which begins
+/// two bytes behind its place.
+pub fn index_read(body: &[u8], places: &[u32], number: usize) -> u64 {
+    match index::read(body, places, number) {
+        Ok(record) => record.len() as u64,
         Err(refusal) => refusal.result(),
     }
 }

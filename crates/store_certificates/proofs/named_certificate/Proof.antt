@@ -1,7 +1,6 @@
 -- `store_certificates::named_certificate` meets its contract: one case for each answer of `locate`.
 use mathlib.Core.Path.{sym, _∙_}
-use Rattle.store_certificates.specs.declared.Located.the-variants.{Card, Desk}
-use Rattle.store_certificates.proofs.Locating.{told, card-part, desk-part, missing-part, refused-part}
+use Rattle.store_certificates.proofs.Locating.{card-part, desk-part, missing-part, refused-part}
 use borrow.Author.Needs.{needs}
 use Rattle.store_certificates.proofs.named_certificate.Statement.{statement}
 use Rattle.store_certificates.proofs.named_certificate.Tie as tie
@@ -13,13 +12,13 @@ enum-known-s : tie.Need-enum-known-s
 enum-known-s c = search needs
 
 cut-requires : tie.Need-cut-requires
-cut-requires c κs = told _ _ _ (Card _) (sym (c .before .before .before .locate .ensures) ∙ c .before .s .given .1) .2 .within
+cut-requires c κs = search needs
 
 enum-known-s-2 : tie.Need-enum-known-s-2
 enum-known-s-2 c = search needs
 
 cut-requires-2 : tie.Need-cut-requires-2
-cut-requires-2 c κs = told _ _ _ (Desk _) (sym (c .before .before .before .locate .ensures) ∙ c .before .s2 .given .1) .3 .within
+cut-requires-2 c κs = search needs
 
 enum-told : tie.Need-enum-told
 enum-told c = search needs

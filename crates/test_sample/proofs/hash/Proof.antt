@@ -17,8 +17,8 @@ loop-holds c = search needs
 byte-requires : tie.Need-byte-requires Inv-loop μ-loop
 byte-requires c κs = search needs
 
-mul-h : tie.Need-mul-h Inv-loop μ-loop
-mul-h c = search needs
+hash-byte-requires : tie.Need-hash-byte-requires Inv-loop μ-loop
+hash-byte-requires c κs = search needs
 
 add-i : tie.Need-add-i Inv-loop μ-loop
 add-i c = search needs
@@ -35,4 +35,4 @@ returns c = search needs
 pub hash-spec : {M : Type 1} → statement M
 hash-spec =
     tie.close
-    (tie.spec Inv-loop μ-loop loop-holds byte-requires mul-h add-i loop-less loop-again returns)
+    (tie.spec Inv-loop μ-loop loop-holds byte-requires hash-byte-requires add-i loop-less loop-again returns)

@@ -1,0 +1,69 @@
+-- `base::cut` meets its contract: what is cut out is the slice from `a` on, or the empty one at the start.
+use mathlib.Core.Path.{refl}
+use native.Mathlib.Omega.{arith}
+use Rattle.base.proofs.Parts.{part-mid}
+use Rattle.base.proofs.Lending.{cut-whole, cut-none}
+use borrow.Author.Needs.{needs}
+use Rattle.base.proofs.cut.Statement.{statement}
+use Rattle.base.proofs.cut.Tie as tie
+
+sub-result : tie.Need-sub-result
+sub-result c = search needs
+
+part-result-start : tie.Need-part-result-start
+part-result-start c = search needs
+
+part-result-end : tie.Need-part-result-end
+part-result-end c = search needs
+
+returns : tie.Need-returns
+returns c = cut-none _ _ _ _ (omega arith) (record { block = refl; offset = omega arith; bytes = refl })
+
+sub-if2 : tie.Need-sub-if2
+sub-if2 c = search needs
+
+sub-result-2 : tie.Need-sub-result-2
+sub-result-2 c = search needs
+
+part-result-start-2 : tie.Need-part-result-start-2
+part-result-start-2 c = search needs
+
+part-result-end-2 : tie.Need-part-result-end-2
+part-result-end-2 c = search needs
+
+returns-2 : tie.Need-returns-2
+returns-2 c = cut-none _ _ _ _ (omega arith) (record { block = refl; offset = omega arith; bytes = refl })
+
+add-e : tie.Need-add-e
+add-e c = search needs
+
+sub-result-3 : tie.Need-sub-result-3
+sub-result-3 c = search needs
+
+part-result-start-3 : tie.Need-part-result-start-3
+part-result-start-3 c = search needs
+
+part-result-end-3 : tie.Need-part-result-end-3
+part-result-end-3 c = search needs
+
+returns-3 : tie.Need-returns-3
+returns-3 c = cut-whole _ _ _ _ (omega arith) (record { block = refl; offset = omega arith; bytes = part-mid _ (c .before .before .before .args .a) (c .before .before .before .args .n) })
+
+pub cut-spec : {M : Type 1} → statement M
+cut-spec =
+    tie.close
+    (tie.spec
+    sub-result
+    part-result-start
+    part-result-end
+    returns
+    sub-if2
+    sub-result-2
+    part-result-start-2
+    part-result-end-2
+    returns-2
+    add-e
+    sub-result-3
+    part-result-start-3
+    part-result-end-3
+    returns-3)

@@ -1,0 +1,346 @@
+-- An index: what the three results tell, and that an index that is kept stays right over any calls.
+-- Read before: ../specs/Index.antt, proofs/Keeping.antt of store_index. Exports `c-index-builds`, `c-index-extends`, `c-index-reads`, `c-index-kept`,
+-- `c-index-replies`.
+use Prim.Native.Nat.{ℕ, zero, suc, _+_, _-_, _*_, _/_, _≤_, _<_}
+use mathlib.Core.Path.{_≡_, refl, sym, ap, ap₂, _∙_, subst}
+use mathlib.Core.Bool.{Bool, true, false}
+use mathlib.Core.List.{List, [], _∷_, _++_, append-assoc, append-nil}
+use native.Mathlib.Omega.{arith}
+use lib.ListN.{length, getD, take, drop, set, length-set, length-append}
+use lib.Seq.{length-sets, getD-take, getD-set-same, getD-set-other}
+use lib.Dec.{leb, eqb}
+use borrow.Author.Tests.{leb-true, leb-false, eqb-true, eqb-false}
+use Rattle.base.specs.Choice.{ifElse, allOf}
+use Rattle.base.specs.Bytes.{part, AllBytes}
+use Rattle.base.proofs.Cases.{false-true, by-cases}
+use Rattle.base.proofs.Runs.{drop-sets-past}
+use Rattle.store_records.specs.Little.{le16}
+use Rattle.store_records.specs.Body.{count, place, records, nth}
+use Rattle.store_records.proofs.Bodies.{records-length}
+use Rattle.store_kinds.specs.Rules.{isBiometrics}
+use Rattle.store_image.specs.Image.{has, body, wellFormed, recordsOf}
+use Rattle.store_image.proofs.Laws.{body-wellFormed}
+use Rattle.store_index.specs.Index.{placesTo, recordFileOk, buildOk, build, buildInto, extendOk, extend, extendInto, readOk, measure}
+use Rattle.store_index.specs.declared.Indexed.the-variants.{Counted, Refused}
+use Rattle.store_index.proofs.Places.{length-places, getD-places, recordFileOk-kind, recordFileOk-few, recordFileOk-row, row-recordFileOk}
+use Rattle.store_index.proofs.Answering.{buildOk-facts, buildOk-accepted, build-refused, extendOk-facts, extendOk-accepted, extend-refused, extend-done, readOk-facts, readOk-accepted, measure-refused, measure-whole}
+use Rattle.store_index.proofs.Keeping.{build-counts, build-list, build-holds, Read, reads-record, reads-zero, reads-past, count-later, build-same, extend-more}
+use Rattle.machine_session.specs.Session.{placeRecord}
+use Rattle.machine_session.specs.declared.Session.{Session}
+use Rattle.machine_apdu.specs.Shape.{shapeOf}
+use Rattle.machine_apdu.specs.declared.Apdu.{Apdu}
+use Rattle.machine_apdu.specs.declared.Apdu.the-variants.{Bad, Good}
+use Rattle.machine_apdu.specs.declared.Frame.{Frame}
+use Rattle.machine_answer.specs.Outcome.{Outcome}
+use Rattle.machine_session_bytes.specs.Layout.{sessionIn}
+use Rattle.malquindo.specs.Face.{called, indexResult}
+use Rattle.promises.specs.Files.{isMeantKind}
+use Rattle.promises.specs.Calls.{isPair, addedBy}
+use Rattle.promises.specs.Promises.{Reads}
+use Rattle.promises.specs.Linked.{refusalIn, statusIn, seen, CCall, OpenC, CommandC, MoveC, afterCallC, afterC, addedC, additionsC, historyC}
+use Rattle.promises.specs.Bodies.{lentBody}
+use Rattle.promises.specs.Index.{indexedIn, BuildC, C-index-builds, ExtendC, C-index-extends, Readable, ReadC, C-index-reads, KeptIndex, builtC, extendedC, indexAfterC, readResult, readBytes, Right, C-index-kept, numberAsked, C-index-replies}
+use Rattle.promises.proofs.Naming.{kind-meant}
+use Rattle.promises.proofs.Calling.{c-holds, c-reads-history}
+use Rattle.promises.proofs.Bodies.{lentBody-is, lent-records, lent-grown}
+
+-- ---- the halves of a result
+
+-- the result r tells that n were counted
+record Tells (r n : ℕ) : Type 0 where
+  whole : r ≡ n
+  refusal : refusalIn r ≡ 0
+  low : indexedIn r ≡ n
+
+tells : (r n : ℕ) → r ≡ indexResult (Counted n) → n < 4294967296 → Tells r n
+unfolding indexResult refusalIn indexedIn
+tells r n e h = record { whole = omega arith; refusal = omega arith; low = omega arith }
+
+-- the result r tells a refusal
+record Refuses (r : ℕ) : Type 0 where
+  six : r ≡ 6 * 4294967296
+  refusal : refusalIn r ≡ 6
+  low : indexedIn r ≡ 0
+
+refuses : (r : ℕ) → r ≡ indexResult Refused → Refuses r
+unfolding indexResult refusalIn indexedIn
+refuses r e = record { six = e; refusal = omega arith; low = omega arith }
+
+-- ---- build
+
+module _ (k : ℕ) (xs ps : List ℕ) where
+  built : recordFileOk k xs ≡ true → count xs ≤ length ps → BuildC k xs ps (indexResult (build k xs ps)) (buildInto k xs ps)
+  built e h =
+      let few = recordFileOk-few k xs e in
+      let t = tells (indexResult (build k xs ps)) (count xs) (ap indexResult (build-counts k xs ps e h)) (omega arith) in
+      let l = build-list k xs ps e h in
+      let c = records-length xs in
+      record {
+        refused-complete = λ f. absurd (f (recordFileOk-row k xs e) (omega arith));
+        refused-sound = λ g. absurd (omega (arith, t .refusal));
+        refused-kept = λ g. absurd (omega (arith, t .refusal));
+        number = λ _. t .whole ∙ sym c;
+        places = λ _ n i.
+            sym (getD-take (count xs) (buildInto k xs ps) (n - 1) 0 (omega (arith, i .0, i .1)))
+            ∙ ap (λ (m : List ℕ). getD m (n - 1) 0) (build-holds k xs ps e h)
+            ∙ getD-places xs (count xs) (n - 1) (omega (arith, i .0, i .1));
+        rest-kept = ap (drop (indexedIn (indexResult (build k xs ps)))) l
+            ∙ drop-sets-past (indexedIn (indexResult (build k xs ps))) ps 0 (placesTo xs (count xs)) (omega (arith, t .low, length-places xs (count xs)));
+        size-kept = ap length l ∙ length-sets ps 0 (placesTo xs (count xs));
+      }
+
+  not-built : buildOk k xs ps ≡ false → BuildC k xs ps (indexResult (build k xs ps)) (buildInto k xs ps)
+  not-built f =
+      let b = build-refused k xs ps f in
+      let t = refuses (indexResult (build k xs ps)) (ap indexResult (sym (b .0))) in
+      let l : buildInto k xs ps ≡ ps = sym (b .1) in
+      record {
+        refused-complete = λ _. t .six;
+        refused-sound = λ _ y h. false-true (sym f ∙ buildOk-accepted k xs ps (row-recordFileOk k xs y) (omega (arith, records-length xs)));
+        refused-kept = λ _. l;
+        number = λ z. absurd (omega (arith, t .refusal));
+        places = λ z. absurd (omega (arith, t .refusal));
+        rest-kept = ap (drop (indexedIn (indexResult (build k xs ps)))) l;
+        size-kept = ap length l;
+      }
+
+pub c-index-builds : C-index-builds
+c-index-builds k xs ps = by-cases (buildOk k xs ps) (λ t. let h = buildOk-facts k xs ps t in built k xs ps (h .0) (h .1)) (not-built k xs ps)
+
+-- ---- extend
+
+module _ (k : ℕ) (xs ps : List ℕ) (n : ℕ) where
+  extended : recordFileOk k xs ≡ true → n + 1 ≡ count xs → n < length ps → ExtendC k xs ps n (indexResult (extend k xs ps n)) (extendInto k xs ps n)
+  extended e c h =
+      let few = recordFileOk-few k xs e in
+      let d = extend-done k xs ps n e c h in
+      let t = tells (indexResult (extend k xs ps n)) (n + 1) (ap indexResult (sym (d .0))) (omega arith) in
+      let l : extendInto k xs ps n ≡ set ps n (place xs n) = sym (d .1) in
+      record {
+        refused-complete = λ f. absurd (f (recordFileOk-row k xs e) (records-length xs ∙ sym c) h);
+        refused-sound = λ g. absurd (omega (arith, t .refusal));
+        refused-kept = λ g. absurd (omega (arith, t .refusal));
+        number = λ _. t .whole;
+        added = λ _. ap (λ (m : List ℕ). getD m n 0) l ∙ getD-set-same ps n (place xs n) 0 h;
+        others-kept = λ i f. ap (λ (m : List ℕ). getD m i 0) l ∙ getD-set-other ps n i (place xs n) 0 f;
+        size-kept = ap length l ∙ length-set ps n (place xs n);
+      }
+
+  not-extended : extendOk k xs ps n ≡ false → ExtendC k xs ps n (indexResult (extend k xs ps n)) (extendInto k xs ps n)
+  not-extended f =
+      let b = extend-refused k xs ps n f in
+      let t = refuses (indexResult (extend k xs ps n)) (ap indexResult (sym (b .0))) in
+      let l : extendInto k xs ps n ≡ ps = sym (b .1) in
+      record {
+        refused-complete = λ _. t .six;
+        refused-sound = λ _ y c h. false-true (sym f ∙ extendOk-accepted k xs ps n (row-recordFileOk k xs y) (sym c ∙ records-length xs) h);
+        refused-kept = λ _. l;
+        number = λ z. absurd (omega (arith, t .refusal));
+        added = λ z. absurd (omega (arith, t .refusal));
+        others-kept = λ i _. ap (λ (m : List ℕ). getD m i 0) l;
+        size-kept = ap length l;
+      }
+
+pub c-index-extends : C-index-extends
+c-index-extends k xs ps n =
+    by-cases (extendOk k xs ps n) (λ t. let h = extendOk-facts k xs ps n t in extended k xs ps n (h .0) (h .1) (h .2)) (not-extended k xs ps n)
+
+-- ---- read
+
+-- two bytes are below 65,536
+le16-small : (xs : List ℕ) (p : ℕ) → AllBytes xs → le16 xs p < 65536
+unfolding le16 AllBytes
+le16-small xs p b = let l = b p in let h = b (p + 1) in omega arith
+
+module _ (xs ps : List ℕ) (n : ℕ) (b : AllBytes xs) where
+  read : Readable xs ps n → ReadC xs ps n (indexResult (measure xs ps n))
+  read y =
+      let t = tells (indexResult (measure xs ps n)) (le16 xs (getD ps (n - 1) 0)) (ap indexResult (sym (measure-whole xs ps n (y .first) (y .last) (y .within)))) (omega (arith, le16-small xs (getD ps (n - 1) 0) b)) in
+      record {
+        refused-complete = λ f. absurd (f y);
+        refused-sound = λ g. absurd (omega (arith, t .refusal));
+        size = λ _. t .whole;
+        within = λ _. omega (arith, y .within, t .whole);
+      }
+
+  not-read : measure xs ps n ≡ Refused → (Readable xs ps n → ⊥) → ReadC xs ps n (indexResult (measure xs ps n))
+  not-read e f =
+      let t = refuses (indexResult (measure xs ps n)) (ap indexResult e) in
+      record {
+        refused-complete = λ _. t .six;
+        refused-sound = λ _. f;
+        size = λ z. absurd (omega (arith, t .refusal));
+        within = λ z. absurd (omega (arith, t .refusal));
+      }
+
+pub c-index-reads : C-index-reads
+c-index-reads xs ps n b =
+    by-cases (readOk xs ps n)
+    (λ t. let h = readOk-facts xs ps n t in read xs ps n b (record { first = h .0; last = h .1; within = h .2 }))
+    (λ f. not-read xs ps n b (sym (measure-refused xs ps n f)) (λ y. false-true (sym f ∙ readOk-accepted xs ps n (y .first) (y .last) (y .within))))
+
+-- ---- an index over calls
+
+one-or-none : (t : Bool) (d : List ℕ) → length (ifElse t (d ∷ []) []) ≤ 1
+one-or-none true d = omega arith
+one-or-none false d = omega arith
+
+addedBy-few : (k : ℕ) (s : Session) (cmd : List ℕ) (w : ℕ) (a : Apdu) → length (addedBy k s cmd w a) ≤ 1
+addedBy-few k s cmd w Bad = omega arith
+addedBy-few k s cmd w (Good f) =
+    one-or-none (allOf (isPair f 0x00 0xE2 ∷ eqb w 0x9000 ∷ isMeantKind s (f .header .p2 / 8) k ∷ [])) (part cmd (f .from) (f .lc))
+
+-- a call adds one record or none
+added-few : (k : ℕ) (img : List ℕ) (c : CCall) → length (addedC k img c) ≤ 1
+unfolding addedC
+added-few k img (OpenC rights ses) = omega arith
+added-few k img (CommandC ses cmd buf) = addedBy-few k (sessionIn ses) cmd (statusIn (called img ses cmd buf .result)) (shapeOf cmd)
+added-few k img (MoveC list t) = omega arith
+
+-- how many places are filled
+filled-is : (k : ℕ) (xs ps : List ℕ) → recordFileOk k xs ≡ true → count xs ≤ length ps → indexedIn (indexResult (build k xs ps)) ≡ count xs
+filled-is k xs ps e h =
+    let few = recordFileOk-few k xs e in
+    tells (indexResult (build k xs ps)) (count xs) (ap indexResult (build-counts k xs ps e h)) (omega arith) .low
+
+-- two indexes with the same list and as many places
+kept-same : {l m : List ℕ} {i j : ℕ} → l ≡ m → i ≡ j → _≡_ {A = KeptIndex} (record { entries = l; filled = i }) (record { entries = m; filled = j })
+kept-same p q t = record { entries = p t; filled = q t }
+
+module _ (k : ℕ) (ps : List ℕ) (b : isBiometrics k ≡ false) where
+  file-ok : (img : List ℕ) → wellFormed img ≡ true → has img k ≡ true → recordFileOk k (lentBody img k) ≡ true
+  file-ok img o h = ap (recordFileOk k) (lentBody-is img k o) ∙ sym (recordFileOk-kind k (body img k) b) ∙ body-wellFormed img k o h
+
+  -- the body that is lent goes on by ds: what is built, and then extended where there is something new, is what would be built
+  extended-built : (xs new : List ℕ) (img : List ℕ) (ds : List (List ℕ)) → new ≡ lentBody img k → recordFileOk k xs ≡ true → recordFileOk k new ≡ true
+      → records new ≡ records xs ++ ds → length ds ≤ 1 → count new ≤ length ps
+      → extendedC k img ds (record { entries = buildInto k xs ps; filled = indexedIn (indexResult (build k xs ps)) })
+      ≡ record { entries = buildInto k new ps; filled = indexedIn (indexResult (build k new ps)) }
+  extended-built xs new img [] n e f g few room =
+      let c = count-later k xs new ps [] e f g room in
+      kept-same (sym (build-same k xs new ps [] e f g room refl)) (filled-is k xs ps e (omega arith) ∙ sym (filled-is k new ps f room ∙ c ∙ omega arith))
+  extended-built xs new img (d ∷ ds) n e f g few room =
+      let c = count-later k xs new ps (d ∷ ds) e f g room in
+      let i = filled-is k xs ps e (omega arith) in
+      let x = extend-more k xs new ps (d ∷ ds) e f g room (omega arith) in
+      let small = recordFileOk-few k new f in
+      kept-same
+      (ap₂ (λ (y : List ℕ) (m : ℕ). extendInto k y (buildInto k xs ps) m) (sym n) i ∙ x .1)
+      (ap₂ (λ (y : List ℕ) (m : ℕ). indexedIn (indexResult (extend k y (buildInto k xs ps) m))) (sym n) i
+      ∙ tells _ (count new) (ap indexResult (x .0)) (omega arith) .low
+      ∙ sym (filled-is k new ps f room))
+
+  -- the history of what follows a call is that of the call and what follows
+  history-step : (img : List ℕ) (c : CCall) (cs : List CCall) → wellFormed img ≡ true → historyC k (afterCallC img c) cs ≡ historyC k img (c ∷ cs)
+  unfolding historyC additionsC afterC
+  history-step img c cs o =
+      ap (λ (rs : List (List ℕ)). rs ++ additionsC k (afterCallC img c) cs)
+      (c-holds img (c ∷ []) o .records k b ∙ ap (λ (l : List (List ℕ)). recordsOf img k ++ l) (append-nil (addedC k img c)))
+      ∙ append-assoc (recordsOf img k) (addedC k img c) (additionsC k (afterCallC img c) cs)
+
+  -- the records of the body are among those of the history
+  fits : (img : List ℕ) (cs : List CCall) → wellFormed img ≡ true → length (historyC k img cs) ≤ length ps → count (lentBody img k) ≤ length ps
+  unfolding historyC
+  fits img cs o r =
+      omega (arith, records-length (lentBody img k), ap length (lent-records img k o), length-append (recordsOf img k) (additionsC k img cs))
+
+  step-built : (img : List ℕ) (c : CCall) → wellFormed img ≡ true → has img k ≡ true → count (lentBody (afterCallC img c) k) ≤ length ps
+      → extendedC k (afterCallC img c) (addedC k img c) (builtC k img ps) ≡ builtC k (afterCallC img c) ps
+  unfolding builtC afterC additionsC
+  step-built img c o h r =
+      let w = c-holds img (c ∷ []) o in
+      extended-built (lentBody img k) (lentBody (afterCallC img c) k) (afterCallC img c) (addedC k img c) refl (file-ok img o h)
+      (file-ok (afterCallC img c) (w .well) (w .files k h))
+      (lent-grown img k (c ∷ []) o b ∙ ap (λ (l : List (List ℕ)). records (lentBody img k) ++ l) (append-nil (addedC k img c)))
+      (added-few k img c) r
+
+  -- over calls
+  kept-built : (img : List ℕ) (calls : List CCall) → wellFormed img ≡ true → has img k ≡ true → length (historyC k img calls) ≤ length ps
+      → indexAfterC k img (builtC k img ps) calls ≡ builtC k (afterC img calls) ps
+  unfolding indexAfterC afterC
+  kept-built img [] o h room = refl
+  kept-built img (c ∷ cs) o h room =
+      let new : List ℕ = afterCallC img c in
+      let w = c-holds img (c ∷ []) o in
+      let s = history-step img c cs o in
+      let y = file-ok new (w .well) (w .files k h) in
+      ap (λ (x : KeptIndex). indexAfterC k new x cs) (step-built img c o h (fits new cs (w .well) (omega (arith, ap length s))))
+      ∙ kept-built new cs (w .well) (w .files k h) (omega (arith, ap length s))
+
+  -- what was built on an image reads the records of its file
+  built-right : (img : List ℕ) → wellFormed img ≡ true → has img k ≡ true → count (lentBody img k) ≤ length ps
+      → Right (lentBody img k) (records (lentBody img k)) (builtC k img ps)
+  unfolding builtC readResult readBytes
+  built-right img o h room =
+      record {
+        filled = i ∙ sym c;
+        few = omega (arith, i, recordFileOk-few k xs e);
+        bytes = λ n f l. let r = reads-record k xs e n f (omega (arith, c)) in
+            ap₂ (λ (p m : ℕ). part xs (p + 2) m) (at n f (omega (arith, c))) (tells _ _ (told n r) (omega (arith, r .small)) .low) ∙ r .bytes;
+        size = λ n f l. let r = reads-record k xs e n f (omega (arith, c)) in tells _ _ (told n r) (omega (arith, r .small)) .whole;
+        no-other = λ n f. refuses _ (ap (λ (l : List ℕ). indexResult (measure xs l n)) lent ∙ ap indexResult (none n f)) .six;
+      }
+    where
+      xs : List ℕ
+      xs = lentBody img k
+
+      e : recordFileOk k xs ≡ true
+      e = file-ok img o h
+
+      c : length (records xs) ≡ count xs
+      c = records-length xs
+
+      i : indexedIn (indexResult (build k xs ps)) ≡ count xs
+      i = filled-is k xs ps e room
+
+      -- the places that are lent
+      lent : take (indexedIn (indexResult (build k xs ps))) (buildInto k xs ps) ≡ placesTo xs (count xs)
+      lent = ap (λ (m : ℕ). take m (buildInto k xs ps)) i ∙ build-holds k xs ps e room
+
+      told : (n : ℕ) → Read k xs e n → indexResult (measure xs (take (indexedIn (indexResult (build k xs ps))) (buildInto k xs ps)) n) ≡ indexResult (Counted (length (nth (records xs) n)))
+      told n r = ap (λ (l : List ℕ). indexResult (measure xs l n)) lent ∙ ap indexResult (r .counted)
+
+      none : (n : ℕ) → (1 ≤ n → n ≤ length (records xs) → ⊥) → measure xs (placesTo xs (count xs)) n ≡ Refused
+      none zero f = reads-zero k xs e
+      none (suc n) f =
+          by-cases (leb (suc n) (count xs))
+          (λ t. absurd (f (omega arith) (omega (arith, c, leb-true (suc n) (count xs) t))))
+          (λ t. reads-past k xs e (suc n) (leb-false (suc n) (count xs) t))
+
+      at : (n : ℕ) → 1 ≤ n → n ≤ count xs → getD (buildInto k xs ps) (n - 1) 0 ≡ getD (placesTo xs (count xs)) (n - 1) 0
+      at n f l = sym (getD-take (count xs) (buildInto k xs ps) (n - 1) 0 (omega arith)) ∙ ap (λ (m : List ℕ). getD m (n - 1) 0) (build-holds k xs ps e room)
+
+pub c-index-kept : C-index-kept
+c-index-kept k img ps calls o h b room =
+    let w = c-holds img calls o in
+    let new : List ℕ = afterC img calls in
+    let rs : records (lentBody new k) ≡ historyC k img calls = lent-records new k (w .well) ∙ w .records k b in
+    let built = kept-built k ps b img calls o h room in
+    let r = built-right k ps b new (w .well) (w .files k h) (omega (arith, records-length (lentBody new k), ap length rs)) in
+    record {
+      right = subst (Right (lentBody new k) (historyC k img calls)) (sym built) (subst (λ (l : List (List ℕ)). Right (lentBody new k) l (builtC k new ps)) rs r);
+      as-built = built;
+    }
+
+-- ---- READ RECORD of one record
+
+module _ (s : Session) (f : Frame) (rs : ℕ → List (List ℕ)) (o : Outcome) (q : Reads s f rs o) where
+  asked : numberAsked s f ≡ q .number
+  unfolding numberAsked
+  asked =
+      by-cases (eqb (f .header .p1) 0)
+      (λ e. simp e (ap placeRecord (q .by-current (eqb-true _ _ e))))
+      (λ e. simp e (sym (q .by-number (eqb-false _ _ e))))
+
+pub c-index-replies : C-index-replies
+c-index-replies k img ps calls ses cmd buf f o h b room bytes e p one m w =
+    let s = sessionIn ses in
+    let u = seen (called (afterC img calls) ses cmd buf) in
+    let q = c-reads-history img calls ses cmd buf f o bytes e p w in
+    let kind : q .rule .kind ≡ k = eqb-true _ _ (sym (kind-meant s (f .header .p2 / 8) (q .rule) (q .permitted .listed) (q .meant) k) ∙ m) in
+    let rs : historyC (q .rule .kind) img calls ≡ historyC k img calls = ap (λ (j : ℕ). historyC j img calls) kind in
+    let right = c-index-kept k img ps calls o h b room .right in
+    q .one one
+    ∙ ap (λ (l : List (List ℕ)). nth l (q .number)) rs
+    ∙ sym (right .bytes (q .number) (q .low) (omega (arith, q .high, ap length rs)))
+    ∙ ap (readBytes (lentBody (afterC img calls) k) (indexAfterC k img (builtC k img ps) calls)) (sym (asked s f (λ j. historyC j img calls) u q))

@@ -1,0 +1,2 @@
+-- An index of the records of a file.
+pub mod Index
