@@ -1,7 +1,8 @@
 /* Selects the travel application of a card, appends a record and reads it back; then moves the card to rooms of 100 bytes
  * and reads the record there. Appends a certificate there too, and asks for certificates by number, of that card and of a
- * desk that has one more. */
+ * desk that has one more. Then keeps an index while a second record is appended, and reads that record by its place. */
 #include <stdio.h>
+#include <string.h>
 #include "malquindo.h"
 
 static uint8_t image[3 * 46] = {
@@ -62,6 +63,35 @@ static int certificate(uint8_t reference)
     }
 }
 
+/* Builds an index of the EntryRecords, appends a record, extends the index, and reads the record by it and by READ RECORD. */
+static int indexed(void)
+{
+    static const uint8_t append[] = {0x00, 0xE2, 0x00, 0x08, 0x06, 0x5F, 0x44, 0x03, 0x46, 0x52, 0x41};
+    static const uint8_t read[] = {0x00, 0xB2, 0x02, 0x0C, 0x00, 0x00, 0x00}; /* record 2 alone */
+    static uint32_t places[MALQUINDO_RECORDS];
+    uint64_t file = malquindo_file(larger, sizeof larger, 0x0101);
+    if (file == 0)
+        return 1;
+    const uint8_t *body = larger + malquindo_file_place(file); /* commands move no body */
+    size_t body_len = malquindo_file_length(file);
+    uint64_t result = malquindo_index_build(0x0101, body, body_len, places, MALQUINDO_RECORDS);
+    if (malquindo_refusal(result) != 0 || run(larger, sizeof larger, append, sizeof append))
+        return 1;
+    size_t n = malquindo_index_places(result);
+    result = malquindo_index_extend(0x0101, body, body_len, places, MALQUINDO_RECORDS, n);
+    if (malquindo_refusal(result) != 0)
+        return 1;
+    n = malquindo_index_places(result); /* what the list holds, not the room that it has */
+    result = malquindo_index_read(body, body_len, places, n, n);
+    if (malquindo_refusal(result) != 0)
+        return 1;
+    const uint8_t *record = body + places[n - 1] + 2;
+    size_t length = malquindo_index_length(result);
+    printf("record %u, by the index: ", (unsigned)n);
+    print(record, length);
+    return run(larger, sizeof larger, read, sizeof read) || memcmp(response, record, length) != 0;
+}
+
 int main(void)
 {
     static const uint8_t select[] = {0x00, 0xA4, 0x04, 0x0C, 0x07, 0xA0, 0x00, 0x00, 0x02, 0x47, 0x20, 0x01};
@@ -77,5 +107,5 @@ int main(void)
     return run(image, sizeof image, select, sizeof select) || run(image, sizeof image, append, sizeof append)
         || run(image, sizeof image, read, sizeof read) || move_card() || run(larger, sizeof larger, read, sizeof read)
         || run(larger, sizeof larger, append_certificate, sizeof append_certificate)
-        || certificate(1) || certificate(2) || certificate(3);
+        || certificate(1) || certificate(2) || certificate(3) || indexed();
 }

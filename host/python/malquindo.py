@@ -39,6 +39,19 @@ A certificate on the card, and one more in the desk's copy. A stamp names them b
     >>> malquindo.certificate(card, desk, 3) is None
     True
 
+An index of EntryRecords, which reads a record without a walk over those before it. After an append it is extended:
+
+    >>> place, length = malquindo.file(image, 0x0101)
+    >>> body = memoryview(image)[place:place + length]
+    >>> index = malquindo.Index.build(0x0101, body)
+    >>> print(send('00E20008065F4403444555'))       # APPEND RECORD: DEU, record 3
+    9000
+    >>> index.extend(body)
+    >>> index.read(body, 3).hex()
+    '5f4403444555'
+    >>> index
+    Index(0x0101, [2, 10, 18])
+
 A status word is an answer, whatever it says. A call that gets none is refused, and that is an exception:
 
     >>> malquindo.command(bytearray(b'no card'), session, b'')
@@ -46,16 +59,17 @@ A status word is an answer, whatever it says. A call that gets none is refused, 
     ...
     malquindo.Refused: 2 BAD_IMAGE: the image is not well formed
 
-open, command, move_card, file and certificate are for most callers. malquindo_open, malquindo_command, malquindo_move, malquindo_file and
-malquindo_certificate are the functions of the header themselves: they take every buffer of the call and answer the number of 64 bits, so
-that a test can lend a buffer that is too short.
+open, command, move_card, file, certificate and Index are for most callers. malquindo_open, malquindo_command, malquindo_move,
+malquindo_file, malquindo_certificate, malquindo_index_build, malquindo_index_extend and malquindo_index_read are the functions of the header
+themselves: they take every buffer of the call and answer the number of 64 bits, so that a test can lend a buffer that is too short.
 
-Buffers are bytes, bytearray or memoryview. One that is written, such as the image, is no bytes object. Each length is that of the buffer;
-a type that does not fit is a TypeError, and two buffers that are written and overlap are a ValueError. What is only read is copied first. So
-no call can do harm, whatever it is given.
+Buffers are bytes, bytearray or memoryview. One that is written, such as the image, is no bytes object. A list of places is an array.array
+of 32-bit numbers, array.array('I'), or a memoryview of one. Each length is that of the buffer; a type that does not fit is a TypeError, and
+two buffers that are written and overlap are a ValueError. What is only read is copied first. So no call can do harm, whatever it is given.
 """
 from __future__ import annotations
 
+import array
 import ctypes
 import enum
 import functools
@@ -65,16 +79,19 @@ import subprocess
 import sys
 from typing import Iterable, NamedTuple, Optional, Tuple, Union
 
-__all__ = ['RIGHTS_LEN', 'SESSION_LEN', 'RESPONSE_LEN', 'IMAGE_LEN', 'Refusal', 'Refused', 'Answer', 'Source', 'Certificate',
-           'open', 'command', 'move_card', 'file', 'certificate',
+__all__ = ['RIGHTS_LEN', 'SESSION_LEN', 'RESPONSE_LEN', 'IMAGE_LEN', 'RECORDS', 'Refusal', 'Refused', 'Answer', 'Source', 'Certificate',
+           'Index', 'open', 'command', 'move_card', 'file', 'certificate',
            'malquindo_session_len', 'malquindo_open', 'malquindo_command', 'malquindo_move', 'malquindo_file', 'malquindo_certificate',
+           'malquindo_index_build', 'malquindo_index_extend', 'malquindo_index_read',
            'malquindo_refusal', 'malquindo_length', 'malquindo_status', 'malquindo_moved', 'malquindo_file_place', 'malquindo_file_length',
-           'malquindo_certificate_which', 'malquindo_certificate_place', 'malquindo_certificate_length']
+           'malquindo_certificate_which', 'malquindo_certificate_place', 'malquindo_certificate_length', 'malquindo_index_places',
+           'malquindo_index_length']
 
 RIGHTS_LEN = 60         # the rights of a chain: three certificates of 20 bytes
 SESSION_LEN = 25        # a session
 RESPONSE_LEN = 2050     # the shortest response buffer: 2,048 bytes of data, SW1, SW2
 IMAGE_LEN = 262144      # the longest card image
+RECORDS = 254           # the most records of a file
 
 ROOT = pathlib.Path(__file__).resolve().parents[2]
 ARCHIVE = ROOT / 'target/staticlib/libmalquindo.a'
@@ -85,14 +102,16 @@ VARIABLE = 'MALQUINDO_LIBRARY'
 
 Buffer = Union[bytes, bytearray, memoryview]
 Written = Union[bytearray, memoryview]
+Places = Union[array.array, memoryview]
 
 
 class Refusal(enum.IntEnum):
-    """Why a call got no status word, no new image or no certificate. The numbers are those of the header."""
+    """Why a call got no status word, no new image, no index, no record or no certificate. The numbers are those of the header."""
     SHORT_BUFFER = 1
     BAD_IMAGE = 2
     BAD_RIGHTS = 3
     BAD_SESSION = 4
+    BAD_INDEX = 6
     BAD_CERTIFICATES = 9
     BAD_LIST = 10
     MISSING_KIND = 11
@@ -105,6 +124,7 @@ REASONS = {
     Refusal.BAD_IMAGE: 'the image is not well formed',
     Refusal.BAD_RIGHTS: 'the rights are not 60 bytes',
     Refusal.BAD_SESSION: 'the session is malformed, or does not fit the image',
+    Refusal.BAD_INDEX: 'the body, the index or the number does not fit',
     Refusal.BAD_CERTIFICATES: 'a body of travel certificates is not well formed',
     Refusal.BAD_LIST: 'the list of rooms lays out no valid image',
     Refusal.MISSING_KIND: 'a file of the old card has no room in the list',
@@ -145,6 +165,52 @@ class Certificate(NamedTuple):
 
     def __str__(self) -> str:
         return f'{self.source.name} {self.data.hex().upper()}'
+
+
+class Index:
+    """The places of a file's records: a record is read by its place, without a walk over those before it.
+
+    A place is where the record's length stands in the file's body. Build the index once. After each APPEND RECORD to the file that is
+    answered 0x9000, extend it. Then it has the place of every record, whatever other commands are run. A move changes no place.
+    """
+
+    def __init__(self, kind: int, places: Iterable[int]):
+        """An index of any places, such as those that were kept from an earlier one. Nothing is tested here but that they are numbers."""
+        self.kind = fitting('a kind', kind, 2)
+        self._places = array.array('I', (fitting('a place', place, 4) for place in places))
+
+    @classmethod
+    def build(cls, kind: int, body: Buffer) -> Index:
+        """The index of all records of a body. The kind is that of the file's section, such as 0x0101 for EntryRecords."""
+        places = array.array('I', [0] * RECORDS)
+        result = accept(malquindo_index_build(kind, body, places))
+        return cls(kind, places[:malquindo_index_places(result)])
+
+    def extend(self, body: Buffer) -> None:
+        """Adds the place of the record that was appended to the body. Where that is refused, the index stays as it is."""
+        places = self._places + array.array('I', [0])
+        accept(malquindo_index_extend(self.kind, body, places, len(self)))
+        self._places = places
+
+    def read(self, body: Buffer, number: int) -> memoryview:
+        """The record of this number, counted from 1. It is a view of the body, not a copy.
+
+        With places that were not built from this body, it is what stands at its place, and may have no byte or more than any record has.
+        """
+        result = accept(malquindo_index_read(body, self._places, number))
+        start = self._places[number - 1] + 2
+        return byte_view('body', body)[start:start + malquindo_index_length(result)]
+
+    @property
+    def places(self) -> Tuple[int, ...]:
+        """The place of each record, in their order."""
+        return tuple(self._places)
+
+    def __len__(self) -> int:
+        return len(self._places)
+
+    def __repr__(self) -> str:
+        return f'Index(0x{self.kind:04X}, {self._places.tolist()})'
 
 
 def open(rights: Buffer) -> bytearray:
@@ -221,12 +287,28 @@ def malquindo_move(old: Buffer, rooms: Buffer, target: Written) -> int:
 
 def malquindo_file(image: Buffer, kind: int) -> int:
     """Where a file stands. The result is place * 2^32 + length; 0 where there is no such file."""
-    return call(library().malquindo_file, read('image', image), number=fitting('a kind', kind, 2))
+    return call(library().malquindo_file, read('image', image), fitting('a kind', kind, 2))
 
 
 def malquindo_certificate(card: Buffer, desk: Buffer, reference: int) -> int:
     """A certificate. The result is refusal * 2^32 + which * 2^28 + place * 2^10 + length."""
-    return call(library().malquindo_certificate, read('card', card), read('desk', desk), number=fitting('a reference', reference, 1))
+    return call(library().malquindo_certificate, read('card', card), read('desk', desk), fitting('a reference', reference, 1))
+
+
+def malquindo_index_build(kind: int, body: Buffer, places: Places) -> int:
+    """Writes the places of a body's records into a list. The result is refusal * 2^32 + the number of places."""
+    return call(library().malquindo_index_build, fitting('a kind', kind, 2), read('body', body), written_places('places', places))
+
+
+def malquindo_index_extend(kind: int, body: Buffer, places: Places, n: int) -> int:
+    """Writes the place of record n + 1 into places[n]. The result is refusal * 2^32 + n + 1."""
+    return call(library().malquindo_index_extend, fitting('a kind', kind, 2), read('body', body), written_places('places', places),
+                fitting('n', n, 8))
+
+
+def malquindo_index_read(body: Buffer, places: Places, number: int) -> int:
+    """The record of a number, by its place in a list of places. The result is refusal * 2^32 + the length of the record."""
+    return call(library().malquindo_index_read, read('body', body), read_places('places', places), fitting('a number', number, 8))
 
 
 def malquindo_refusal(result: int) -> int:
@@ -274,6 +356,16 @@ def malquindo_certificate_length(result: int) -> int:
     return result & 0x3FF
 
 
+def malquindo_index_places(result: int) -> int:
+    """Of building and extending an index: how many places the list then holds."""
+    return result & 0xFFFFFFFF
+
+
+def malquindo_index_length(result: int) -> int:
+    """Of reading by an index: the length of the record."""
+    return result & 0xFFFFFFFF
+
+
 def accept(result: int) -> int:
     """The result of a call that is not refused."""
     if malquindo_refusal(result):
@@ -315,15 +407,31 @@ def byte_view(name: str, buffer: Buffer) -> memoryview:
     return view if view.itemsize == 1 and view.ndim == 1 else view.cast('B')
 
 
+def place_view(name: str, places: Places) -> memoryview:
+    """A view of a list of places that lie side by side."""
+    if not isinstance(places, (array.array, memoryview)):
+        raise TypeError(f"{name}: array.array('I') or memoryview is needed, not {type(places).__name__}")
+    view = memoryview(places)
+    # The library is made for machines that have the low byte first.
+    if view.itemsize != 4 or view.format not in ('I', 'L', '<I', '<L') or view.ndim != 1 or not view.c_contiguous:
+        raise TypeError(f"{name}: 32-bit numbers side by side are needed, such as array.array('I')")
+    return view
+
+
 class Lent(NamedTuple):
-    """A buffer as the library gets it."""
+    """A buffer as the library gets it. The length counts elements."""
     name: str
     array: ctypes.Array
     length: int
 
+    def addresses(self) -> range:
+        """Those of its bytes."""
+        start = ctypes.addressof(self.array)
+        return range(start, start + self.length * ctypes.sizeof(self.array._type_))
+
     def overlaps(self, other: Lent) -> bool:
-        start, other_start = ctypes.addressof(self.array), ctypes.addressof(other.array)
-        return start < other_start + other.length and other_start < start + self.length
+        these, those = self.addresses(), other.addresses()
+        return these.start < those.stop and those.start < these.stop
 
 
 def read(name: str, buffer: Buffer) -> Lent:
@@ -340,23 +448,47 @@ def written(name: str, buffer: Written) -> Lent:
     return Lent(name, (ctypes.c_ubyte * view.nbytes).from_buffer(view) if view.nbytes else NOTHING, view.nbytes)
 
 
-# What stands for a buffer of no bytes: a pointer must not be null, even then.
+def read_places(name: str, places: Places) -> Lent:
+    """A list of places that is only read. The library gets a copy."""
+    view = place_view(name, places)
+    return Lent(name, (ctypes.c_uint32 * len(view)).from_buffer_copy(view) if len(view) else NO_PLACES, len(view))
+
+
+def written_places(name: str, places: Places) -> Lent:
+    """A list of places that the library may write."""
+    view = place_view(name, places)
+    if view.readonly:
+        raise TypeError(f'{name}: this list is written, so a memoryview that is only read does not do')
+    lent = Lent(name, (ctypes.c_uint32 * len(view)).from_buffer(view) if len(view) else NO_PLACES, len(view))
+    if ctypes.addressof(lent.array) % ctypes.alignment(ctypes.c_uint32):
+        raise ValueError(f'{name}: the numbers of this memoryview do not lie where 32-bit numbers may')
+    return lent
+
+
+# What stands for a buffer of no bytes and for a list of no places: a pointer must not be null, even then.
 NOTHING = (ctypes.c_ubyte * 1)()
+NO_PLACES = (ctypes.c_uint32 * 1)()
 
 
-def call(function: ctypes._CFuncPtr, *lent: Lent, number: Optional[int] = None) -> int:
-    """Calls a function of the header with pointer and length of each buffer, and behind them the number, if it takes one."""
+def call(function: ctypes._CFuncPtr, *arguments: Union[Lent, int]) -> int:
+    """Calls a function of the header: pointer and length of each buffer, and numbers as they are."""
+    lent = [argument for argument in arguments if isinstance(argument, Lent)]
     for i, one in enumerate(lent):
         for other in lent[:i]:
             if one.overlaps(other):
                 raise ValueError(f'{other.name} and {one.name} overlap')
-    numbers = () if number is None else (number,)
-    return function(*(argument for one in lent for argument in (one.array, one.length)), *numbers)
+    parts = ((argument.array, argument.length) if isinstance(argument, Lent) else (argument,) for argument in arguments)
+    return function(*(part for argument in parts for part in argument))
 
 
-# For each function how many buffers it takes, and what it takes behind them.
-FUNCTIONS = {'malquindo_open': (2, []), 'malquindo_command': (4, []), 'malquindo_move': (3, []),
-             'malquindo_file': (1, [ctypes.c_uint16]), 'malquindo_certificate': (2, [ctypes.c_uint8])}
+# What each function takes. A buffer is a pointer and a length.
+BYTES = [ctypes.POINTER(ctypes.c_ubyte), ctypes.c_size_t]
+PLACES = [ctypes.POINTER(ctypes.c_uint32), ctypes.c_size_t]
+FUNCTIONS = {'malquindo_open': 2 * BYTES, 'malquindo_command': 4 * BYTES, 'malquindo_move': 3 * BYTES,
+             'malquindo_file': BYTES + [ctypes.c_uint16], 'malquindo_certificate': 2 * BYTES + [ctypes.c_uint8],
+             'malquindo_index_build': [ctypes.c_uint16] + BYTES + PLACES,
+             'malquindo_index_extend': [ctypes.c_uint16] + BYTES + PLACES + [ctypes.c_size_t],
+             'malquindo_index_read': BYTES + PLACES + [ctypes.c_size_t]}
 
 
 @functools.lru_cache(maxsize=None)
@@ -365,9 +497,9 @@ def library() -> ctypes.PyDLL:
     loaded = ctypes.PyDLL(str(shared_object()))
     loaded.malquindo_session_len.argtypes = []
     loaded.malquindo_session_len.restype = ctypes.c_size_t
-    for name, (buffers, numbers) in FUNCTIONS.items():
+    for name, arguments in FUNCTIONS.items():
         function = getattr(loaded, name)
-        function.argtypes = [ctypes.POINTER(ctypes.c_ubyte), ctypes.c_size_t] * buffers + numbers
+        function.argtypes = arguments
         function.restype = ctypes.c_uint64
     return loaded
 

@@ -14,7 +14,7 @@ import unittest
 sys.dont_write_bytecode = True     # no files beside the module
 sys.path.insert(0, str(pathlib.Path(__file__).resolve().parent))
 import malquindo
-from malquindo import Source, Refusal
+from malquindo import Index, Source, Refusal
 
 ALL_RIGHTS = b'\xFF' * malquindo.RIGHTS_LEN
 TRAVEL = [(0x0101, 40), (0x0102, 40), (0x011A, 40)]
@@ -104,6 +104,11 @@ class Empty(Case):
         self.assertEqual(malquindo.malquindo_move(b'', b'', bytearray()), 0)
         self.assertEqual(malquindo.malquindo_file(b'', 0x011A), 0)
         self.answers(malquindo.malquindo_certificate(b'', b'', 1), Refusal.BAD_CERTIFICATES)
+        none = array.array('I')
+        self.answers(malquindo.malquindo_index_build(0x0101, b'', none), Refusal.BAD_INDEX)
+        self.answers(malquindo.malquindo_index_extend(0x0101, b'', none, 0), Refusal.BAD_INDEX)
+        self.answers(malquindo.malquindo_index_read(b'', none, 1), Refusal.BAD_INDEX)
+        self.assertEqual(malquindo.malquindo_index_build(0x0101, bytes(2), none), 0)
 
 
 class Short(Case):
@@ -349,9 +354,173 @@ class Certificates(Case):
             self.assertRaises(ValueError, malquindo.certificate, self.NONE, self.NONE, wrong)
 
 
+class Indexes(Case):
+    KINDS = {0x0101: (391, 254), 0x0102: (391, 254), 0x011A: (929, 254), 0x0203: (512, 254), 0x021A: (929, 254), 0x031A: (929, 64)}
+    NONE = bytes(2)
+    THREE = bytes.fromhex('0300 0100 A1 0300 A2A2A2 0200 A3A3 0100EE')    # and free bytes
+    PLACES = (2, 5, 10)
+    RECORDS = (b'\xA1', b'\xA2' * 3, b'\xA3' * 2)
+    DAMAGED = (b'', b'\x00', b'\xFF\x00', b'\x00\x01', bytes([1, 0]), bytes([1, 0, 1]), bytes([1, 0, 0, 0]), THREE[:13])
+    NO_KINDS = (0, 0x0103, 0x0400, 0x0401, 0x0440, 0x0441, 0x1A01, 0xFFFF)
+
+    @staticmethod
+    def alike(count, length):
+        return bytes([count, 0]) + (length.to_bytes(2, 'little') + b'\x07' * length) * count
+
+    @staticmethod
+    def entries(count):
+        """Entries that are no places."""
+        return array.array('I', range(0xEE000000, 0xEE000000 + count))
+
+    def test_a_place_for_each_record(self):
+        for kind, (longest, most) in self.KINDS.items():
+            index = Index.build(kind, self.THREE)
+            self.assertEqual((index.kind, len(index), index.places), (kind, 3, self.PLACES))
+            self.assertEqual(tuple(bytes(index.read(self.THREE, number)) for number in (1, 2, 3)), self.RECORDS)
+            self.assertEqual(Index.build(kind, self.NONE).places, ())
+            full = self.alike(most, longest)
+            index = Index.build(kind, full)
+            self.assertEqual((len(index), index.places[-1]), (most, len(full) - longest - 2))
+            self.assertEqual(index.read(full, most), b'\x07' * longest)
+            self.refused(Refusal.BAD_INDEX, Index.build, kind, self.alike(most + 1, 1))
+            self.refused(Refusal.BAD_INDEX, Index.build, kind, self.alike(1, longest + 1))
+
+    def test_refused_kinds_and_bodies(self):
+        for kind, body in [(kind, self.THREE) for kind in self.NO_KINDS] + [(0x0101, body) for body in self.DAMAGED]:
+            self.refused(Refusal.BAD_INDEX, Index.build, kind, body)
+            for places in ((), (2, 5), (2,) * 254):
+                index = Index(kind, places)
+                self.refused(Refusal.BAD_INDEX, index.extend, body)
+                self.assertEqual(index.places, places)
+
+    def test_extended_by_the_last_record(self):
+        index = Index.build(0x0203, self.NONE)
+        index.extend(self.alike(1, 512))
+        self.assertEqual(index.places, (2,))
+        # The places before are not looked at.
+        index = Index(0x0203, (7, 0xFFFFFFFF))
+        index.extend(self.THREE)
+        self.assertEqual(index.places, (7, 0xFFFFFFFF, 10))
+        full = self.alike(254, 1)
+        index = Index(0x0203, Index.build(0x0203, full).places[:253])
+        index.extend(full)
+        self.assertEqual(index.places, Index.build(0x0203, full).places)
+
+    def test_extended_by_no_other(self):
+        for places in ((), (2,), self.PLACES, self.PLACES + (14,), (0,) * 300):
+            index = Index(0x0101, places)
+            self.refused(Refusal.BAD_INDEX, index.extend, self.THREE)
+            self.assertEqual(index.places, places)
+
+    def test_numbers(self):
+        index = Index.build(0x0101, self.THREE)
+        for number in (0, 4, 255, 2 ** 32 + 1, 2 ** 64 - 1):
+            self.refused(Refusal.BAD_INDEX, index.read, self.THREE, number)
+        self.refused(Refusal.BAD_INDEX, Index(0x0101, ()).read, self.THREE, 1)
+
+    def test_a_foreign_list(self):
+        def read(body, place):
+            return bytes(Index(0, [place]).read(body, 1))
+        self.assertEqual(read(self.THREE, 0), self.THREE[2:5])
+        self.assertEqual(read(bytes(4), 2), b'')
+        long = b'\xFF\xFF' + bytes(65535)
+        self.assertEqual(len(read(long, 0)), 65535)
+        for body, place in ((long[:-1], 0), (self.THREE, 7), (self.THREE, 16), (self.THREE, 17), (self.THREE[:9], 5), (b'', 0)):
+            self.refused(Refusal.BAD_INDEX, Index(0, [place]).read, body, 1)
+        for place in range(2 ** 32 - 4, 2 ** 32):
+            self.refused(Refusal.BAD_INDEX, Index(0, [place]).read, bytes(4), 1)
+
+    def test_a_view_is_no_copy(self):
+        body = bytearray(self.THREE)
+        record = Index.build(0x0101, body).read(body, 2)
+        body[8] = 0xB2
+        self.assertEqual(record, b'\xA2\xB2\xA2')
+        self.assertIs(record.obj, body)
+
+    def test_beside_a_card(self):
+        image = malquindo.move_card(b'', [(0x0101, 400), (0x0102, 2), (0x011A, 2)])
+        malquindo.command(image, self.session, SELECT)
+        place, length = malquindo.file(image, 0x0101)
+        body = memoryview(image)[place:place + length]
+        index = Index.build(0x0101, body)
+        for number in range(1, 21):
+            append = bytes([0x00, 0xE2, 0x00, 0x08, number]) + bytes([number] * number)
+            self.assertEqual(malquindo.command(image, self.session, append).status, 0x9000)
+            index.extend(body)
+        self.assertEqual(index.places, Index.build(0x0101, body).places)
+        for number in range(1, 21):
+            answer = malquindo.command(image, self.session, bytes([0x00, 0xB2, number, 0x0C, 0, 0, 0]))
+            self.assertEqual(answer, (index.read(body, number), 0x9000))
+        # A move changes no place.
+        larger = malquindo.move_card(image, [(0x0101, 500), (0x0102, 2), (0x011A, 2)])
+        self.assertEqual(index.read(memoryview(larger)[place:], 20), index.read(body, 20))
+
+    def test_other_entries_stay(self):
+        places = self.entries(6)
+        result = malquindo.malquindo_index_build(0x0101, self.THREE, places)
+        self.assertEqual((malquindo.malquindo_index_places(result), places[:3].tolist(), places[3:]), (3, [2, 5, 10], self.entries(6)[3:]))
+        places, after = self.entries(6), self.entries(6)
+        after[2] = 10
+        result = malquindo.malquindo_index_extend(0x0101, self.THREE, places, 2)
+        self.assertEqual((malquindo.malquindo_index_places(result), places), (3, after))
+        self.assertEqual(malquindo.malquindo_index_length(malquindo.malquindo_index_read(self.THREE, places, 3)), 2)
+
+    def test_a_refused_list_stays(self):
+        for count in (0, 1, 2):
+            places = self.entries(count)
+            self.answers(malquindo.malquindo_index_build(0x0101, self.THREE, places), Refusal.BAD_INDEX)
+            self.answers(malquindo.malquindo_index_extend(0x0101, self.THREE, places, 2), Refusal.BAD_INDEX)
+            self.assertEqual(places, self.entries(count))
+        places = self.entries(6)
+        for body in self.DAMAGED:
+            self.answers(malquindo.malquindo_index_build(0x0101, body, places), Refusal.BAD_INDEX)
+        for body, n in ((self.THREE, 1), (self.THREE, 3), (self.THREE, 2 ** 32 + 2), (self.THREE, 2 ** 64 - 1), (self.NONE, 2 ** 64 - 1)):
+            self.answers(malquindo.malquindo_index_extend(0x0101, body, places, n), Refusal.BAD_INDEX)
+        self.assertEqual(places, self.entries(6))
+
+    def test_parts_of_a_list(self):
+        shelf = self.entries(7)
+        self.assertEqual(malquindo.malquindo_index_build(0x0101, self.THREE, memoryview(shelf)[2:5]), 3)
+        self.assertEqual(shelf[2:5].tolist(), [2, 5, 10])
+        self.assertEqual((shelf[:2], shelf[5:]), (self.entries(7)[:2], self.entries(7)[5:]))
+        foreign = (ctypes.c_uint32 * 3)()
+        self.assertEqual(malquindo.malquindo_index_build(0x0101, self.THREE, memoryview(foreign)), 3)
+        self.assertEqual(list(foreign), [2, 5, 10])
+        # What is only read is copied, so it may be anywhere.
+        bytes_of_places = bytearray(1) + shelf.tobytes()
+        odd = memoryview(bytes_of_places)[1:].cast('I')
+        self.assertEqual(malquindo.malquindo_index_read(self.THREE, odd.toreadonly(), 4), 3)
+        self.assertRaises(ValueError, malquindo.malquindo_index_build, 0x0101, self.THREE, odd)
+
+    def test_lists_are_given_back(self):
+        places = self.entries(3)
+        malquindo.malquindo_index_build(0x0101, self.THREE, places)
+        places.append(7)
+
+    def test_wrong_arguments(self):
+        good = self.entries(6)
+        for wrong in ([0] * 6, b'\x00' * 24, bytearray(24), array.array('H', [0] * 6), array.array('i', [0] * 6), memoryview(good)[::2], None):
+            self.assertRaises(TypeError, malquindo.malquindo_index_build, 0x0101, self.THREE, wrong)
+            self.assertRaises(TypeError, malquindo.malquindo_index_extend, 0x0101, self.THREE, wrong, 2)
+            self.assertRaises(TypeError, malquindo.malquindo_index_read, self.THREE, wrong, 1)
+        self.assertRaises(TypeError, malquindo.malquindo_index_build, 0x0101, self.THREE, memoryview(good).toreadonly())
+        for wrong in ('1', b'\x01', 1.0, None):
+            self.assertRaises(TypeError, Index.build, wrong, self.THREE)
+            self.assertRaises(TypeError, Index, wrong, ())
+            self.assertRaises(TypeError, Index, 0x0101, [wrong])
+            self.assertRaises(TypeError, Index(0x0101, [2]).read, self.THREE, wrong)
+            self.assertRaises(TypeError, malquindo.malquindo_index_extend, 0x0101, self.THREE, good, wrong)
+        for wrong in (-1, 2 ** 64):
+            self.assertRaises(ValueError, Index.build, wrong, self.THREE)
+            self.assertRaises(ValueError, Index, 0x0101, [wrong])
+            self.assertRaises(ValueError, Index(0x0101, [2]).read, self.THREE, wrong)
+            self.assertRaises(ValueError, malquindo.malquindo_index_extend, 0x0101, self.THREE, good, wrong)
+        self.assertRaises(TypeError, Index.build, 0x0101, '0000')
+
+
 class Refusals(Case):
     def test_the_numbers(self):
-        self.assertEqual(sorted(Refusal), [1, 2, 3, 4, 9, 10, 11, 12, 13])
+        self.assertEqual(sorted(Refusal), [1, 2, 3, 4, 6, 9, 10, 11, 12, 13])
         self.assertEqual(malquindo.accept(0x29000), 0x29000)
         self.assertEqual(set(malquindo.REASONS), set(Refusal))
         self.assertEqual(malquindo.Refused(99).refusal, 99)

@@ -1,4 +1,5 @@
-//! The calls to time: card, session and command; card and rooms; bodies of certificates.
+//! The calls to time: card, session and command; card and rooms; bodies of certificates; a body
+//! with an index.
 
 use compare::make::{self, Apdu, LONGEST_IMAGE, RULES};
 use compare::random::Random;
@@ -316,6 +317,27 @@ pub fn last_certificate() -> Certificate {
         desk: full.clone(),
         card: full,
         reference: rule.most as u8,
+    }
+}
+
+/// The body of a full file, and a record of it to read.
+pub struct Indexed {
+    pub held: String,
+    pub kind: u16,
+    pub body: Vec<u8>,
+    pub number: usize,
+    /// READ RECORD of the same record.
+    pub read_record: Case,
+}
+
+/// Record `number` of EntryRecords, which is as full as it can be.
+pub fn indexed(number: usize) -> Indexed {
+    Indexed {
+        held: "254 records of 391 bytes".to_string(),
+        kind: 0x0101,
+        body: make::records(&random_records(MOST_RECORDS)),
+        number,
+        read_record: read_one(number, MOST_RECORDS),
     }
 }
 

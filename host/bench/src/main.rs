@@ -18,6 +18,7 @@ fn main() {
     growth();
     move_times();
     certificate_times();
+    index_times();
     stack_use();
 }
 
@@ -171,6 +172,40 @@ fn certificate_times() {
     let case = cases::last_certificate();
     let times = time::measure_certificate(&case);
     print_times(&case.name, &case.held, times);
+}
+
+/// Records by an index beside a plain slice and READ RECORD; then the building of an index.
+fn index_times() {
+    println!("\n| row | what the buffers held | by the index (ns) | by a plain slice (ns) | ratio index / slice | by the index, copied (ns) | by a plain slice, copied (ns) | ratio index / slice | READ RECORD (ns) |");
+    println!("|---|---|---|---|---|---|---|---|---|");
+    for number in [1, 250] {
+        let case = cases::indexed(number);
+        let times = time::measure_read(&case);
+        println!(
+            "| record {number} | {} | {:.1} | {:.1} | {:.2} | {:.1} | {:.1} | {:.2} | {:.1} |",
+            case.held,
+            times.index,
+            times.slice,
+            times.index / times.slice,
+            times.index_copied,
+            times.slice_copied,
+            times.index_copied / times.slice_copied,
+            times.read_record
+        );
+    }
+    println!("\n| row | what the buffers held | proved (µs) | reference (µs) | ratio | plain walk (µs) | ratio to the walk |");
+    println!("|---|---|---|---|---|---|---|");
+    let case = cases::indexed(1);
+    let times = time::measure_build(&case);
+    println!(
+        "| build an index | {} | {:.3} | {:.3} | {:.2} | {:.3} | {:.2} |",
+        case.held,
+        times.proved / 1_000.0,
+        times.reference / 1_000.0,
+        times.proved / times.reference,
+        times.walk / 1_000.0,
+        times.proved / times.walk
+    );
 }
 
 fn stack_use() {

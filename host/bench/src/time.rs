@@ -1,7 +1,9 @@
 //! Timing one call of each implementation, in turns.
 
-use crate::cases::{Case, Certificate, Move};
-use compare::sides::{Machine, PROVED, REFERENCE};
+use crate::cases::{Case, Certificate, Indexed, Move, LONGEST_RECORD, MOST_RECORDS};
+use compare::sides::{IndexBuild, Machine, PROVED, REFERENCE};
+use malquindo::Index;
+use std::hint::black_box;
 use std::time::{Duration, Instant};
 
 /// A sample of calls that change nothing lasts at least this long, so that the clock's own steps
@@ -24,6 +26,23 @@ pub struct MoveTimes {
     pub proved: f64,
     pub reference: f64,
     pub copy: f64,
+}
+
+/// Median time to obtain one record, and to obtain and copy it.
+pub struct ReadTimes {
+    pub index: f64,
+    pub slice: f64,
+    pub index_copied: f64,
+    pub slice_copied: f64,
+    /// READ RECORD, which walks over the records and copies one.
+    pub read_record: f64,
+}
+
+/// Median time of building one index, and of a plain walk over the same records.
+pub struct BuildTimes {
+    pub proved: f64,
+    pub reference: f64,
+    pub walk: f64,
 }
 
 /// Both implementations on the same case, alternating.
@@ -58,6 +77,45 @@ pub fn measure_certificate(case: &Certificate) -> Times {
     let mut reference = Bench::new(FindCertificate::new(case, &REFERENCE), false);
     let [proved, reference] = in_turns([&mut proved, &mut reference], BUDGET);
     Times { proved, reference }
+}
+
+/// One record by the wrapper's index, by a plain slice and by READ RECORD, alternating.
+pub fn measure_read(case: &Indexed) -> ReadTimes {
+    let mut index = Bench::new(ReadIndexed::new(case), false);
+    let mut slice = Bench::new(ReadSlice::new(case), false);
+    let mut index_copied = Bench::new(Copied::new(ReadIndexed::new(case)), false);
+    let mut slice_copied = Bench::new(Copied::new(ReadSlice::new(case)), false);
+    let mut read_record = Bench::new(Command::new(&case.read_record, &PROVED), false);
+    let [index, slice, index_copied, slice_copied, read_record] = in_turns(
+        [
+            &mut index,
+            &mut slice,
+            &mut index_copied,
+            &mut slice_copied,
+            &mut read_record,
+        ],
+        BUDGET,
+    );
+    ReadTimes {
+        index,
+        slice,
+        index_copied,
+        slice_copied,
+        read_record,
+    }
+}
+
+/// Both implementations and a plain walk on the same body, alternating.
+pub fn measure_build(case: &Indexed) -> BuildTimes {
+    let mut proved = Bench::new(BuildIndex::new(case, PROVED.index_build), false);
+    let mut reference = Bench::new(BuildIndex::new(case, REFERENCE.index_build), false);
+    let mut walk = Bench::new(BuildIndex::new(case, walk), false);
+    let [proved, reference, walk] = in_turns([&mut proved, &mut reference, &mut walk], BUDGET);
+    BuildTimes {
+        proved,
+        reference,
+        walk,
+    }
 }
 
 /// The median of each one's samples.
@@ -174,6 +232,147 @@ impl Work for FindCertificate<'_> {
     }
 }
 
+/// What obtains a record.
+trait Read {
+    fn record(&self) -> &[u8];
+}
+
+/// A record, obtained alone.
+impl<R: Read> Work for R {
+    fn reset(&mut self) {}
+
+    fn call(&mut self) -> u64 {
+        black_box(self.record()).len() as u64
+    }
+}
+
+/// By the wrapper's index.
+struct ReadIndexed<'a> {
+    case: &'a Indexed,
+    index: Index,
+}
+
+impl<'a> ReadIndexed<'a> {
+    fn new(case: &'a Indexed) -> Self {
+        let index = Index::build(case.kind, &case.body).expect("a well-formed body");
+        let work = Self { case, index };
+        assert_eq!(work.record().len(), LONGEST_RECORD);
+        work
+    }
+}
+
+impl Read for ReadIndexed<'_> {
+    fn record(&self) -> &[u8] {
+        let body = black_box(&self.case.body);
+        let record = self.index.read(body, black_box(self.case.number));
+        record.expect("the number is in the index")
+    }
+}
+
+/// By an offset that a plain program stores.
+struct ReadSlice<'a> {
+    case: &'a Indexed,
+    offsets: Vec<u32>,
+}
+
+impl<'a> ReadSlice<'a> {
+    fn new(case: &'a Indexed) -> Self {
+        let mut offsets = vec![0; MOST_RECORDS];
+        walk(case.kind, &case.body, &mut offsets);
+        let work = Self { case, offsets };
+        assert_eq!(work.record(), ReadIndexed::new(case).record());
+        work
+    }
+}
+
+impl Read for ReadSlice<'_> {
+    fn record(&self) -> &[u8] {
+        let body = black_box(&self.case.body);
+        slice(body, &self.offsets, black_box(self.case.number))
+    }
+}
+
+/// The record at a stored offset. It is a call, as that of the library is.
+#[inline(never)]
+fn slice<'b>(body: &'b [u8], offsets: &[u32], number: usize) -> &'b [u8] {
+    let place = offsets[number - 1] as usize;
+    let length = usize::from(u16::from_le_bytes([body[place], body[place + 1]]));
+    &body[place + 2..place + 2 + length]
+}
+
+/// A record, obtained and copied.
+struct Copied<R> {
+    read: R,
+    buffer: [u8; LONGEST_RECORD],
+}
+
+impl<R: Read> Copied<R> {
+    fn new(read: R) -> Self {
+        let buffer = [0; LONGEST_RECORD];
+        Self { read, buffer }
+    }
+}
+
+impl<R: Read> Work for Copied<R> {
+    fn reset(&mut self) {}
+
+    fn call(&mut self) -> u64 {
+        let record = black_box(self.read.record());
+        self.buffer[..record.len()].copy_from_slice(record);
+        u64::from(black_box(&self.buffer)[0])
+    }
+}
+
+/// The building of an index in a list that is there.
+struct BuildIndex<'a> {
+    case: &'a Indexed,
+    build: IndexBuild,
+    places: Vec<u32>,
+}
+
+impl<'a> BuildIndex<'a> {
+    fn new(case: &'a Indexed, build: IndexBuild) -> Self {
+        let mut work = Self {
+            case,
+            build,
+            places: vec![0; MOST_RECORDS],
+        };
+        assert_eq!(work.call(), MOST_RECORDS as u64);
+        let index = Index::build(case.kind, &case.body).expect("a well-formed body");
+        assert_eq!(work.places, index.places());
+        work
+    }
+}
+
+impl Work for BuildIndex<'_> {
+    fn reset(&mut self) {}
+
+    fn call(&mut self) -> u64 {
+        (self.build)(self.case.kind, &self.case.body, &mut self.places)
+    }
+}
+
+/// A plain walk over the records of EntryRecords that checks each and notes its place, in one
+/// pass: a refusal comes when places are written already.
+fn walk(_kind: u16, body: &[u8], places: &mut [u32]) -> u64 {
+    let mut walk = || {
+        let count = usize::from(u16::from_le_bytes(*body.first_chunk()?));
+        let list = places.get_mut(..count)?;
+        let mut rest = &body[2..];
+        for place in list {
+            *place = (body.len() - rest.len()) as u32;
+            let (length, behind) = rest.split_first_chunk()?;
+            let length = usize::from(u16::from_le_bytes(*length));
+            if !(1..=LONGEST_RECORD).contains(&length) {
+                return None;
+            }
+            rest = behind.get(length..)?;
+        }
+        (count <= MOST_RECORDS).then_some(count as u64)
+    };
+    walk().unwrap_or(6 << 32)
+}
+
 /// The bytes of a card, copied.
 struct Copy<'a> {
     from: &'a [u8],
@@ -193,8 +392,8 @@ impl Work for Copy<'_> {
     fn reset(&mut self) {}
 
     fn call(&mut self) -> u64 {
-        self.target.copy_from_slice(std::hint::black_box(self.from));
-        u64::from(std::hint::black_box(&self.target)[0])
+        self.target.copy_from_slice(black_box(self.from));
+        u64::from(black_box(&self.target)[0])
     }
 }
 
@@ -234,7 +433,7 @@ impl<W: Work> Sampled for Bench<W> {
         self.work.reset();
         let start = Instant::now();
         for _ in 0..self.calls {
-            std::hint::black_box(self.work.call());
+            black_box(self.work.call());
         }
         let spent = start.elapsed().as_nanos() as f64;
         (spent - self.clock).max(0.0) / f64::from(self.calls)

@@ -1,4 +1,4 @@
-//! Bytes as text.
+//! Bytes as text, and a hash of them.
 
 use std::fmt::Write;
 
@@ -11,4 +11,20 @@ pub fn hex(bytes: &[u8]) -> String {
         let _ = write!(text, "{byte:02x}");
         text
     })
+}
+
+/// FNV-1a, 32 bits.
+pub fn fnv(bytes: &[u8]) -> u32 {
+    bytes.iter().fold(2_166_136_261, |hash, byte| {
+        (hash ^ u32::from(*byte)).wrapping_mul(16_777_619)
+    })
+}
+
+/// The hash of a list of places, as bytes.
+pub fn fnv_of_places(places: &[u32]) -> u32 {
+    let bytes: Vec<u8> = places
+        .iter()
+        .flat_map(|place| place.to_le_bytes())
+        .collect();
+    fnv(&bytes)
 }

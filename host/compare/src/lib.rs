@@ -1,25 +1,33 @@
 //! Compares the proved library with the reference, call by call.
 //!
 //! Each module uses only those above it in this list:
-//! - [`random`]: the generator of numbers; [`hex`]: bytes as text;
+//! - [`random`]: the generator of numbers; [`hex`]: bytes as text, and a hash of them;
 //! - [`make`]: the bytes of images, data objects and commands;
 //! - [`view`]: what an image and a session hold;
 //! - [`step`]: one step of a run, and what a side holds between two steps;
-//! - [`card`], [`rights`], [`objects`], [`command`], [`moving`], [`certificates`]: made-up images,
-//!   rights and sessions, data objects, commands, moves, and bodies of certificates;
-//! - [`scene`]: the calls that every run begins with;
+//! - [`card`], [`rights`], [`objects`], [`command`], [`moving`], [`bodies`], [`certificates`],
+//!   [`index`]: made-up images, rights and sessions, data objects, commands, moves, bodies of record
+//!   files, certificates to find, and calls of an index;
+//! - [`follow`]: an index that is kept beside a card;
+//! - [`index_scene`], [`scene`]: the calls that every run begins with;
 //! - [`sequence`]: the calls, in sequences on one card each;
 //! - [`talk`]: commands for one card, each with the library's answer;
-//! - [`tally`]: how often each outcome occurred;
+//! - [`sort`], [`index_tally`], [`tally`]: what sort of call of an index it is; how often each
+//!   sort and each outcome occurred;
 //! - [`sides`]: both implementations, side by side;
 //! - [`sample`]: a sample of calls as data.
 
 #![forbid(unsafe_code)]
 
+pub mod bodies;
 pub mod card;
 pub mod certificates;
 pub mod command;
+pub mod follow;
 pub mod hex;
+pub mod index;
+pub mod index_scene;
+pub mod index_tally;
 pub mod make;
 pub mod moving;
 pub mod objects;
@@ -29,6 +37,7 @@ pub mod sample;
 pub mod scene;
 pub mod sequence;
 pub mod sides;
+pub mod sort;
 pub mod step;
 pub mod talk;
 pub mod tally;

@@ -2,16 +2,16 @@
 //! print. The answers are the reference's alone.
 
 use crate::card::Size;
-use crate::hex::hex;
+use crate::hex::{fnv, fnv_of_places, hex};
 use crate::sequence::Sequence;
-use crate::step::{State, Step};
+use crate::step::{IndexCall, State, Step};
 use crate::tally::Tally;
 use std::ops::RangeInclusive;
 
 /// The seed of the sample that is kept as data.
-pub const SEED: u64 = 93_034;
+pub const SEED: u64 = 93_053;
 /// The most bytes the sample may have.
-pub const LONGEST: usize = 262_144;
+pub const LONGEST: usize = 340_000;
 /// What the response buffer holds before each command, and the target before each move.
 const FILL: u8 = 0xA5;
 
@@ -67,6 +67,7 @@ fn one_sequence(seed: u64, number: u64) -> (Vec<u8>, Vec<Lines>) {
             Step::Command {
                 response_len,
                 command,
+                ..
             } => run(&mut state, *response_len, command),
             Step::Move { target_len, list } => move_card(&mut state, *target_len, list),
             Step::File(kind) => find_file(&mut state, *kind),
@@ -76,6 +77,7 @@ fn one_sequence(seed: u64, number: u64) -> (Vec<u8>, Vec<Lines>) {
                 first,
                 last,
             } => find_certificates(&mut state, card, desk, *first..=*last),
+            Step::Index { call, places, body } => index(&mut state, *call, places, body),
         };
         let results = state.results(&step).to_vec();
         lines.push((text, step, results));
@@ -137,8 +139,34 @@ fn find_certificates(
     })
 }
 
-/// A case: 1 image, 2 session, 3 open, 4 command, 5 move, 6 file, 7 certificates; numbers are
-/// little-endian.
+/// Builds or extends an index and says what the list is then; or reads by it and says which bytes
+/// each record has.
+fn index(state: &mut State, call: IndexCall, places: &[u32], body: &[u8]) -> String {
+    state.places = places.to_vec();
+    let result = match call {
+        IndexCall::Build { kind } => reference::index_build(kind, body, &mut state.places),
+        IndexCall::Extend { kind, n } => reference::index_extend(kind, body, &mut state.places, n),
+        IndexCall::Read { first, last } => return read(state, body, first..=last),
+    };
+    state.answers = vec![result];
+    format!("{result} {}\n", fnv_of_places(&state.places))
+}
+
+fn read(state: &mut State, body: &[u8], numbers: RangeInclusive<usize>) -> String {
+    state.answers.clear();
+    numbers.fold(String::new(), |text, number| {
+        let result = reference::index_read(body, &state.places, number);
+        state.answers.push(result);
+        let record = match result >> 32 {
+            0 => &body[state.places[number - 1] as usize + 2..][..result as usize],
+            _ => &[],
+        };
+        text + &format!("{result} {}\n", hex(record))
+    })
+}
+
+/// A case: 1 image, 2 session, 3 open, 4 command, 5 move, 6 file, 7 certificates, 8 an index;
+/// numbers are little-endian.
 fn encode(step: &Step, bytes: &mut Vec<u8>) {
     match step {
         Step::Image(image) => {
@@ -159,6 +187,7 @@ fn encode(step: &Step, bytes: &mut Vec<u8>) {
         Step::Command {
             response_len,
             command,
+            ..
         } => {
             bytes.push(4);
             bytes.extend((*response_len as u16).to_le_bytes());
@@ -187,12 +216,20 @@ fn encode(step: &Step, bytes: &mut Vec<u8>) {
                 bytes.extend(body);
             }
         }
+        Step::Index { call, places, body } => {
+            let (op, kind, first, last) = match *call {
+                IndexCall::Build { kind } => (0, kind, 0, 0),
+                IndexCall::Extend { kind, n } => (1, kind, n, 0),
+                IndexCall::Read { first, last } => (2, 0, first, last),
+            };
+            bytes.extend([8, op]);
+            bytes.extend(kind.to_le_bytes());
+            bytes.extend((first as u64).to_le_bytes());
+            bytes.extend((last as u64).to_le_bytes());
+            bytes.extend((places.len() as u16).to_le_bytes());
+            bytes.extend(places.iter().flat_map(|place| place.to_le_bytes()));
+            bytes.extend((body.len() as u32).to_le_bytes());
+            bytes.extend(body);
+        }
     }
-}
-
-/// FNV-1a, 32 bits.
-fn fnv(bytes: &[u8]) -> u32 {
-    bytes.iter().fold(2_166_136_261, |hash, byte| {
-        (hash ^ u32::from(*byte)).wrapping_mul(16_777_619)
-    })
 }

@@ -1,8 +1,10 @@
 //! The calls that every run begins with: a card with the travel application, moved to larger
 //! rooms and on to others, with commands before and behind each move, and each refusal of a move;
-//! then files to find, and certificates to find in bodies of each sort.
+//! then files to find, and certificates to find in bodies of each sort; then an index, beside a
+//! card and alone.
 
 use crate::hex::hex;
+use crate::index_scene::{self, built, extended, not_extended, read};
 use crate::make::{self, Apdu, LONGEST_IMAGE, RIGHTS_LEN, SESSION_LEN, SHORTEST_RESPONSE};
 use crate::step::Step;
 use std::ops::RangeInclusive;
@@ -10,7 +12,8 @@ use std::ops::RangeInclusive;
 /// A step and what comes of it: a command's answer in hexadecimal; `refusal` and its number, or
 /// how many bytes the new image has; how many bytes a file has and where, or `none`; of each
 /// certificate the body that has it, its place there and its bytes, or `missing`, or `refusal 9`,
-/// with a comma between them; nothing for what is no call, and for the opening.
+/// with a comma between them; of an index what [`index_scene`] says; nothing for what is no call,
+/// and for the opening.
 pub type Line = (Step, String);
 
 const ENTRY: u16 = 0x0101;
@@ -43,6 +46,8 @@ pub fn lines() -> Vec<Line> {
         the_cards_before_the_desks(),
         damaged_bodies(),
         bodies_at_the_border(),
+        an_index_beside_a_card(),
+        index_scene::lines(),
     ]
     .concat()
 }
@@ -55,6 +60,7 @@ fn run(command: &Apdu, answer: &str) -> Line {
     let step = Step::Command {
         response_len: SHORTEST_RESPONSE,
         command: command.bytes(),
+        record: None,
     };
     (step, answer.to_string())
 }
@@ -267,11 +273,13 @@ fn an_activated_file_moved() -> Vec<Line> {
 /// To the longest image there is, and back to small rooms.
 fn the_longest_card() -> Vec<Line> {
     let short: usize = all(0, 21).iter().map(|(_, length)| 6 + length).sum();
-    let longest = all(LONGEST_IMAGE - short, 21);
+    let room = LONGEST_IMAGE - short;
+    let longest = all(room, 21);
     let list = make::list(&longest);
     vec![
         moves(list, LONGEST_IMAGE - 1, "refusal 13"),
         moved(&longest, 0),
+        file(BIOMETRICS_CERTIFICATES, &format!("{room} bytes at 228")),
         read_from(1, 0x1A, "5f44034652419000"),
         moved(&all(10, 11), 0),
         moved(&all(10, 11), 0),
@@ -458,5 +466,59 @@ fn bodies_at_the_border() -> Vec<Line> {
         ask(&free, &desks_body(1), 0x02, "missing"),
         ask(&desks_body(1), &free, 0x02, "missing"),
         ask(&free, &desks_body(2), 0x02, "desk 8 de02"),
+    ]
+}
+
+/// READ RECORD of a record that an index has read.
+fn read_again(number: u8, short_id: u8, record: &[u8]) -> Line {
+    let command = Apdu::new(0x00, 0xB2, number, short_id << 3 | 0b100)
+        .le(0)
+        .extended(true);
+    let step = Step::Command {
+        response_len: SHORTEST_RESPONSE,
+        command: command.bytes(),
+        record: Some(record.to_vec()),
+    };
+    (step, format!("{}9000", hex(record)))
+}
+
+/// An index of EntryRecords: built when it is empty, extended after each append that is done, and
+/// kept over a move to a larger room.
+fn an_index_beside_a_card() -> Vec<Line> {
+    let body = |records: &[&[u8]], length| {
+        let mut body = make::records(records);
+        body.resize(length, 0);
+        body
+    };
+    let (one, two) = (body(&[&USA], 40), body(&[&USA, &FRA], 40));
+    let (grown, three) = (body(&[&USA, &FRA], 60), body(&[&USA, &FRA, &LONG], 60));
+    let places = [2, 10, 18];
+    let records = [Some(&USA[..]), Some(&FRA), Some(&LONG)];
+    vec![
+        card(vec![]),
+        moved(&travel(40, 2, 2), 0),
+        (Step::Session(vec![0; SESSION_LEN]), String::new()),
+        (Step::Open(vec![0xFF; RIGHTS_LEN]), String::new()),
+        select(1),
+        built(ENTRY, &body(&[], 40), 3, &[]),
+        append(1, &USA, "9000"),
+        extended(ENTRY, &one, 3, 0, 2),
+        append(1, &FRA, "9000"),
+        extended(ENTRY, &two, 3, 1, 10),
+        append(1, &LONG, "6a84"),
+        not_extended(ENTRY, &two, 3, 2),
+        read(&two, &places[..2], 1..=2, &records[..2]),
+        read_again(1, 1, &USA),
+        read_again(2, 1, &FRA),
+        moved(&travel(60, 2, 2), 0),
+        read(&grown, &places[..2], 1..=2, &records[..2]),
+        read_again(2, 1, &FRA),
+        append(1, &LONG, "9000"),
+        extended(ENTRY, &three, 3, 2, 18),
+        read(&three, &places, 1..=3, &records),
+        read_again(1, 1, &USA),
+        read_again(2, 1, &FRA),
+        read_again(3, 1, &LONG),
+        built(ENTRY, &three, 3, &places),
     ]
 }

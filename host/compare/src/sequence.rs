@@ -4,6 +4,8 @@
 use crate::card::{self, Size};
 use crate::certificates;
 use crate::command;
+use crate::follow::Follow;
+use crate::index;
 use crate::make::{SESSION_LEN, SHORTEST_RESPONSE};
 use crate::moving;
 use crate::random::Random;
@@ -25,7 +27,12 @@ pub struct Sequence {
     image: Option<Vec<u8>>,
     /// Whether the result at hand is that of a move, which says nothing about the session.
     moved: bool,
+    /// The index that is kept beside the card, in a sequence that does nothing else.
+    follow: Option<Follow>,
 }
+
+/// One sequence in so many keeps an index beside its card.
+const FOLLOWS: u64 = 10;
 
 impl Sequence {
     /// The sequence of this number in the run of this seed; each seed's first is the scene.
@@ -33,20 +40,36 @@ impl Sequence {
         let random = Random::part(seed, number);
         match number {
             0 => Self::scene(random, size),
+            _ if number % FOLLOWS == 1 => Self::beside_an_index(random, size),
             _ => Self::on_a_card(random, size),
         }
     }
 
     fn scene(random: Random, size: Size) -> Self {
+        let steps = scene::lines().into_iter().map(|(step, _)| step).collect();
+        Self::of_steps(random, size, steps)
+    }
+
+    fn beside_an_index(mut random: Random, size: Size) -> Self {
+        let (follow, steps) = Follow::new(&mut random, size);
         Self {
-            pending: scene::lines().into_iter().map(|(step, _)| step).collect(),
-            commands_left: 0,
-            damages_left: 0,
+            follow: Some(follow),
+            ..Self::of_steps(random, size, steps)
+        }
+    }
+
+    /// These steps and no more.
+    fn of_steps(random: Random, size: Size, steps: Vec<Step>) -> Self {
+        Self {
             random,
             size,
+            pending: steps.into(),
+            commands_left: 0,
+            damages_left: 0,
             session: None,
             image: None,
             moved: false,
+            follow: None,
         }
     }
 
@@ -63,27 +86,24 @@ impl Sequence {
             Size::Small => random.below(3),
             Size::Any => random.below(6),
         };
+        let steps = vec![
+            Step::Image(image),
+            Step::Session(session),
+            Step::Open(rights),
+        ];
         Self {
-            pending: [
-                Step::Image(image),
-                Step::Session(session),
-                Step::Open(rights),
-            ]
-            .into(),
             commands_left: random.between(36, 44),
             damages_left,
-            random,
-            size,
-            session: None,
-            image: None,
-            moved: false,
+            ..Self::of_steps(random, size, steps)
         }
     }
 
     /// The next step, made for what the calls so far left; none at the sequence's end.
     pub fn next(&mut self, state: &State) -> Option<Step> {
         if self.pending.is_empty() {
-            if self.commands_left > 0 {
+            if let Some(follow) = &mut self.follow {
+                self.pending.extend(follow.next(&mut self.random, state));
+            } else if self.commands_left > 0 {
                 self.commands_left -= 1;
                 self.plan(state);
             } else if self.damages_left > 0 {
@@ -116,6 +136,9 @@ impl Sequence {
                 self.plan_certificates(&state.image);
             }
             13..=14 => self.plan_file(&state.image),
+            15..=24 if self.size == Size::Any || self.random.one_in(8) => {
+                self.plan_index(&state.image);
+            }
             _ => self.plan_command(&view, &state.image),
         }
     }
@@ -158,6 +181,7 @@ impl Sequence {
         self.pending.push_back(Step::Command {
             response_len,
             command,
+            record: None,
         });
     }
 
@@ -180,9 +204,15 @@ impl Sequence {
         self.pending.push_back(step);
     }
 
+    /// A call of an index, with the image's body of a kind or with a made-up one.
+    fn plan_index(&mut self, image: &[u8]) {
+        let step = index::step(&mut self.random, image, self.size);
+        self.pending.push_back(step);
+    }
+
     /// A damaged image in place of the card's, and one step on it: a command; a file or
-    /// certificates to find; or a move to rooms for what can still be seen of it or for what it
-    /// was.
+    /// certificates to find; a call of an index; or a move to rooms for what can still be seen of
+    /// it or for what it was.
     fn plan_damage(&mut self, state: &State) {
         let session = self.good_session(state);
         let image = self.image.get_or_insert_with(|| state.image.clone());
@@ -194,6 +224,7 @@ impl Sequence {
             1 => self.plan_move(&image),
             2 => self.plan_file(&damaged),
             3 => self.plan_certificates(&damaged),
+            4 => self.plan_index(&damaged),
             _ => self.plan_command(&View::new(&damaged, &session), &damaged),
         }
     }

@@ -4,7 +4,7 @@ use crate::card::Size;
 use crate::hex::hex;
 use crate::random::Random;
 use crate::sequence::Sequence;
-use crate::step::{State, Step};
+use crate::step::{IndexCall, State, Step};
 use crate::tally::Tally;
 use std::fmt;
 
@@ -18,6 +18,12 @@ pub type MoveCard = fn(&[u8], &[u8], &mut [u8]) -> u64;
 pub type File = fn(&[u8], u16) -> u64;
 /// The certificate that a stamp names: the card's body, the desk's, reference.
 pub type Certificate = fn(&[u8], &[u8], u8) -> u64;
+/// Builds an index: kind, body, list.
+pub type IndexBuild = fn(u16, &[u8], &mut [u32]) -> u64;
+/// Extends an index: kind, body, list, the number of places that it holds.
+pub type IndexExtend = fn(u16, &[u8], &mut [u32], usize) -> u64;
+/// Reads by an index: body, list, number.
+pub type IndexRead = fn(&[u8], &[u32], usize) -> u64;
 
 /// One implementation.
 pub struct Machine {
@@ -26,6 +32,9 @@ pub struct Machine {
     pub move_card: MoveCard,
     pub file: File,
     pub certificate: Certificate,
+    pub index_build: IndexBuild,
+    pub index_extend: IndexExtend,
+    pub index_read: IndexRead,
 }
 
 pub const PROVED: Machine = Machine {
@@ -34,6 +43,9 @@ pub const PROVED: Machine = Machine {
     move_card: malquindo_sys::move_card,
     file: malquindo_sys::file,
     certificate: malquindo_sys::certificate,
+    index_build: malquindo_sys::index_build,
+    index_extend: malquindo_sys::index_extend,
+    index_read: malquindo_sys::index_read,
 };
 
 pub const REFERENCE: Machine = Machine {
@@ -42,6 +54,9 @@ pub const REFERENCE: Machine = Machine {
     move_card: reference::move_card,
     file: reference::file,
     certificate: reference::certificate,
+    index_build: reference::index_build,
+    index_extend: reference::index_extend,
+    index_read: reference::index_read,
 };
 
 /// All that a call may change.
@@ -52,7 +67,8 @@ pub struct Outcome {
     pub target: Vec<u8>,
 }
 
-/// A call after which the two sides are not the same.
+/// A call after which the two sides are not the same; or READ RECORD of a record that an index has
+/// read otherwise.
 pub struct Difference {
     pub seed: u64,
     pub sequence: u64,
@@ -91,7 +107,7 @@ pub fn compare_machines(
             sides.prepare(&step, &mut fill);
             sides.proved.run(&step, proved);
             sides.reference.run(&step, reference);
-            if sides.proved != sides.reference {
+            if sides.proved != sides.reference || !sides.read_again(&step) {
                 return Err(Box::new(Difference {
                     seed,
                     sequence: number,
@@ -145,16 +161,30 @@ impl Sides {
                 proved.target.clone_from(&before.target);
                 reference.target.clone_from(&before.target);
             }
-            // These have no buffer to fill.
+            // These have no buffer to fill, or bring their own.
             Step::Image(_)
             | Step::Session(_)
             | Step::Open(_)
             | Step::File(_)
-            | Step::Certificates { .. } => {}
+            | Step::Certificates { .. }
+            | Step::Index { .. } => {}
         }
         let held = &reference.state;
         before.state.image.clone_from(&held.image);
         before.state.session.clone_from(&held.session);
+    }
+
+    /// Whether a record that an index has read is what READ RECORD answers, on both sides.
+    fn read_again(&self, step: &Step) -> bool {
+        match step {
+            Step::Command {
+                record: Some(record),
+                ..
+            } => [&self.proved, &self.reference]
+                .iter()
+                .all(|side| side.answer() == [record, &[0x90, 0x00][..]].concat()),
+            _ => true,
+        }
     }
 
     /// After a move that is done the card is the one that it wrote. The old one was compared
@@ -175,6 +205,7 @@ impl Outcome {
             session,
             result,
             answers,
+            places,
         } = &mut self.state;
         match step {
             Step::Image(new) => image.clone_from(new),
@@ -196,7 +227,29 @@ impl Outcome {
                 let certificate = |reference| (machine.certificate)(card, desk, reference);
                 *answers = (*first..=*last).map(certificate).collect();
             }
+            Step::Index {
+                call,
+                places: list,
+                body,
+            } => {
+                places.clone_from(list);
+                *answers = match *call {
+                    IndexCall::Build { kind } => vec![(machine.index_build)(kind, body, places)],
+                    IndexCall::Extend { kind, n } => {
+                        vec![(machine.index_extend)(kind, body, places, n)]
+                    }
+                    IndexCall::Read { first, last } => (first..=last)
+                        .map(|number| (machine.index_read)(body, places, number))
+                        .collect(),
+                };
+            }
         }
+    }
+
+    /// What a command answered: data and status word.
+    fn answer(&self) -> &[u8] {
+        let length = usize::from((self.state.result >> 16) as u16);
+        self.response.get(..length).unwrap_or_default()
     }
 }
 
@@ -209,12 +262,24 @@ impl fmt::Display for Difference {
         )?;
         match &self.step {
             Step::Open(rights) => writeln!(f, "open     {}", hex(rights))?,
-            Step::Command { command, .. } => writeln!(f, "command  {}", hex(command))?,
+            Step::Command {
+                command, record, ..
+            } => {
+                writeln!(f, "command  {}", hex(command))?;
+                if let Some(record) = record {
+                    writeln!(f, "record   {} by an index", hex(record))?;
+                }
+            }
             Step::Move { list, .. } => writeln!(f, "move     {}", hex(list))?,
             Step::File(kind) => writeln!(f, "file     {kind:04X}")?,
             Step::Certificates { card, desk, .. } => {
                 writeln!(f, "card     {}", hex(card))?;
                 writeln!(f, "desk     {}", hex(desk))?;
+            }
+            Step::Index { call, places, body } => {
+                writeln!(f, "index    {call}")?;
+                writeln!(f, "list     {places:?}")?;
+                writeln!(f, "body     {}", hex(body))?;
             }
             Step::Image(_) | Step::Session(_) => writeln!(f, "no call")?,
         }
@@ -234,12 +299,15 @@ impl Difference {
         match &self.step {
             Step::Move { .. } => writeln!(f, "{name} target   {}", hex(&outcome.target))?,
             Step::File(_) | Step::Certificates { .. } => {}
+            Step::Index { .. } if name == "BEFORE" => {}
+            Step::Index { .. } => writeln!(f, "{name} list     {:?}", outcome.state.places)?,
             _ => writeln!(f, "{name} response {}", hex(&outcome.response))?,
         }
         writeln!(f, "{name} image    {}", hex(image))
     }
 
-    /// The parts of the results; of certificates, where the two sides differ.
+    /// The parts of the results; of certificates and of reading by an index, where the two sides
+    /// differ.
     fn results(&self, f: &mut fmt::Formatter<'_>, name: &str, state: &State) -> fmt::Result {
         let result = state.result;
         let (refusal, low) = (result >> 32, result as u32);
@@ -256,6 +324,21 @@ impl Difference {
                 .zip(&state.answers)
                 .filter(|(reference, _)| self.differs(usize::from(reference - first)))
                 .try_for_each(|(reference, result)| certificate(f, name, reference, *result)),
+            Step::Index {
+                call: IndexCall::Read { first, .. },
+                ..
+            } => (state.answers.iter().enumerate())
+                .filter(|(at, _)| self.differs(*at))
+                .try_for_each(|(at, result)| {
+                    let (refusal, length) = (result >> 32, *result as u32);
+                    write!(f, "{name} number {} result {result}: ", first + at)?;
+                    writeln!(f, "refusal {refusal}, length {length}")
+                }),
+            Step::Index { .. } => state.answers.iter().try_for_each(|result| {
+                let (refusal, places) = (result >> 32, *result as u32);
+                write!(f, "{name} result {result}: ")?;
+                writeln!(f, "refusal {refusal}, places {places}")
+            }),
             _ => writeln!(
                 f,
                 "{name} result {result}: refusal {refusal}, length {length}, status {status:04X}"

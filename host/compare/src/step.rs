@@ -1,5 +1,7 @@
 //! One step of a run, and what a side holds between two steps.
 
+use std::fmt;
+
 /// One thing to do. An image or a session stays until another comes; a move that is done brings
 /// the image that it wrote.
 #[derive(Clone)]
@@ -10,6 +12,9 @@ pub enum Step {
     Command {
         response_len: usize,
         command: Vec<u8>,
+        /// For READ RECORD of a record that an index has read: its bytes, which the data of the
+        /// answer must be.
+        record: Option<Vec<u8>>,
     },
     Move {
         target_len: usize,
@@ -24,14 +29,54 @@ pub enum Step {
         first: u8,
         last: u8,
     },
+    Index {
+        call: IndexCall,
+        /// The list before the call.
+        places: Vec<u32>,
+        body: Vec<u8>,
+    },
+}
+
+/// What is done with an index.
+#[derive(Clone, Copy)]
+pub enum IndexCall {
+    Build {
+        kind: u16,
+    },
+    Extend {
+        kind: u16,
+        n: usize,
+    },
+    /// Each number from `first` to `last`, both included: as many calls.
+    Read {
+        first: usize,
+        last: usize,
+    },
+}
+
+impl fmt::Display for IndexCall {
+    fn fmt(&self, f: &mut fmt::Formatter<'_>) -> fmt::Result {
+        match self {
+            Self::Build { kind } => write!(f, "build {kind:04X}"),
+            Self::Extend { kind, n } => write!(f, "extend {kind:04X} of {n} places"),
+            Self::Read { first, last } => write!(f, "read {first} to {last}"),
+        }
+    }
 }
 
 impl Step {
     /// Leaves no more than so many calls, which are not 0.
     pub fn shorten(&mut self, calls: u64) {
-        if let Self::Certificates { first, last, .. } = self {
-            let end = u64::from(*first) + calls - 1;
-            *last = end.min(u64::from(*last)) as u8;
+        match self {
+            Self::Certificates { first, last, .. } => {
+                let end = u64::from(*first) + calls - 1;
+                *last = end.min(u64::from(*last)) as u8;
+            }
+            Self::Index {
+                call: IndexCall::Read { first, last },
+                ..
+            } => *last = first.saturating_add(calls as usize - 1).min(*last),
+            _ => {}
         }
     }
 }
@@ -43,9 +88,12 @@ pub struct State {
     pub session: Vec<u8>,
     /// The result of the last opening, command or move.
     pub result: u64,
-    /// The results of the last step that changes nothing: one of a file, as many of certificates
-    /// as there are references.
+    /// The results of the last step that is none of these: one of a file, and of building or
+    /// extending an index; as many as there are references or numbers of certificates and of
+    /// reading by an index.
     pub answers: Vec<u64>,
+    /// The list after the last call of an index.
+    pub places: Vec<u32>,
 }
 
 impl State {
@@ -67,7 +115,7 @@ impl State {
             Step::Open(_) | Step::Command { .. } | Step::Move { .. } => {
                 std::slice::from_ref(&self.result)
             }
-            Step::File(_) | Step::Certificates { .. } => &self.answers,
+            Step::File(_) | Step::Certificates { .. } | Step::Index { .. } => &self.answers,
         }
     }
 }

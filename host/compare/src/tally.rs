@@ -1,6 +1,7 @@
 //! How often each outcome occurred.
 
 use crate::command::NAMES;
+use crate::index_tally::IndexTally;
 use crate::make;
 use crate::step::Step;
 use crate::view;
@@ -50,13 +51,14 @@ pub struct Tally {
     bodies: [[u64; 4]; 4],
     /// Calls by reference, without those that were refused.
     references: BTreeMap<u8, u64>,
+    pub index: IndexTally,
 }
 
 impl Tally {
     pub fn calls(&self) -> u64 {
         let files: u64 = self.files.iter().sum();
         let certificates: u64 = self.certificates.iter().sum();
-        self.commands + self.opens + self.moves + files + certificates
+        self.commands + self.opens + self.moves + files + certificates + self.index.calls()
     }
 
     /// Counts a step by the results of its calls; an image or a session has none.
@@ -64,6 +66,7 @@ impl Tally {
         if let Step::Certificates { card, desk, .. } = step {
             self.bodies[form(card)][form(desk)] += 1;
         }
+        self.index.step(step, results);
         for (at, result) in results.iter().enumerate() {
             self.call(step, at, *result);
         }
@@ -83,7 +86,8 @@ impl Tally {
             }
             Step::File(_) => self.files[usize::from(result != 0)] += 1,
             Step::Certificates { first, .. } => self.certificate(first + at as u8, result),
-            Step::Image(_) | Step::Session(_) => {}
+            // An index has a tally of its own.
+            Step::Image(_) | Step::Session(_) | Step::Index { .. } => {}
         }
     }
 
@@ -138,7 +142,7 @@ impl Tally {
     /// What occurred too seldom: each status, each refusal, 9000 of each command, 9000 of a
     /// search by an id and by either spelling of a short id, 6981 of the last two, 6A82 of a search by
     /// another byte, moves done, files found and not, what comes of a reference, bodies that are
-    /// damaged, empty or full, each of the 256 references.
+    /// damaged, empty or full, each of the 256 references, each sort of call of an index.
     pub fn missing(&self, each: u64, done: u64) -> Vec<String> {
         let statuses = STATUSES
             .iter()
@@ -172,6 +176,7 @@ impl Tally {
             .chain(moves)
             .chain(moved)
             .chain(self.wanted_files_and_certificates(each, done))
+            .chain(self.index.wanted(each, done))
             .filter(|(_, count, wanted)| count < wanted)
             .map(|(what, count, wanted)| format!("{what}: {count} times, {wanted} wanted"))
             .collect()
@@ -206,10 +211,11 @@ impl Tally {
 fn form(body: &[u8]) -> usize {
     // The other body is well formed, so that a refusal is this one's.
     let damaged = reference::certificate(body, &[0, 0], 1) >> 32 != 0;
-    match view::certificates(body).len() {
+    let rule = make::travel_certificates();
+    match view::records(rule, body).len() {
         _ if damaged => 0,
         0 => 1,
-        count if count == make::travel_certificates().most => 2,
+        count if count == rule.most => 2,
         _ => 3,
     }
 }
@@ -258,7 +264,11 @@ impl fmt::Display for Tally {
         let files: u64 = self.files.iter().sum();
         let certificates: u64 = self.certificates.iter().sum();
         write!(f, "{commands} commands, {opens} openings, {moves} moves, ")?;
-        writeln!(f, "{files} files, {certificates} certificates\n")?;
+        let index = self.index.calls();
+        writeln!(
+            f,
+            "{files} files, {certificates} certificates, {index} index calls\n"
+        )?;
         write!(f, "| status |")?;
         let names = NAMES.iter().map(|(_, name, ..)| *name);
         for name in names.chain(["other", "all"]) {
@@ -297,7 +307,8 @@ impl fmt::Display for Tally {
         for number in MOVE_REFUSALS {
             writeln!(f, "| refusal {number} | {} |", self.moved(number))?;
         }
-        self.show_files_and_certificates(f)
+        self.show_files_and_certificates(f)?;
+        write!(f, "{}", self.index)
     }
 }
 

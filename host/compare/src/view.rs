@@ -152,9 +152,22 @@ pub fn rooms(image: &[u8]) -> Vec<Room> {
     sections(image).into_iter().map(room).collect()
 }
 
-/// Where the certificates lie in a body of travel certificates.
-pub fn certificates(body: &[u8]) -> Vec<Range<usize>> {
-    let file = record_file(body, make::travel_certificates(), 0..body.len());
+/// Where the body of a kind lies in an image, as far as [`sections`] sees it.
+pub fn body(image: &[u8], kind: u16) -> Option<Range<usize>> {
+    let mut sections = sections(image).into_iter();
+    let (_, body) = sections.find(|(found, _)| *found == kind)?;
+    Some(body)
+}
+
+/// How many records a body says it has; 0 where it is too short to say.
+pub fn count(body: &[u8]) -> usize {
+    let count = body.first_chunk().copied().map(u16::from_le_bytes);
+    count.map_or(0, usize::from)
+}
+
+/// Where the records lie in a body of this rule.
+pub fn records(rule: &'static Rule, body: &[u8]) -> Vec<Range<usize>> {
+    let file = record_file(body, rule, 0..body.len());
     file.records().to_vec()
 }
 

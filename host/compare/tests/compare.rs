@@ -5,7 +5,7 @@ use compare::scene;
 use compare::sides::{
     compare, compare_machines, Certificate, Command, File, Machine, MoveCard, PROVED, REFERENCE,
 };
-use compare::step::Step;
+use compare::step::{IndexCall, Step};
 use compare::view;
 
 const SEED: u64 = 20_000;
@@ -16,6 +16,7 @@ fn twenty_thousand_calls() {
     assert_eq!(tally.calls(), 20_000);
     let missing = tally.missing(10, 10);
     assert!(missing.is_empty(), "{}\n{tally}", missing.join("\n"));
+    assert!(tally.index.long_bodies >= 3, "{tally}");
 }
 
 /// The reference, each time with something changed that the rules leave alone.
@@ -277,6 +278,10 @@ fn the_scene_ends_as_it_says() {
         let calls = match step {
             Step::Image(_) | Step::Session(_) => 0,
             Step::Certificates { first, last, .. } => usize::from(last - first) + 1,
+            Step::Index {
+                call: IndexCall::Read { first, last },
+                ..
+            } => last - first + 1,
             _ => 1,
         };
         let lines: Vec<&str> = printed.by_ref().take(calls).collect();
@@ -303,6 +308,12 @@ fn said(step: &Step, line: &str) -> String {
             2 => format!("desk {place} {rest}"),
             _ => format!("refusal {refusal}"),
         },
+        Step::Index { call, .. } => match call {
+            IndexCall::Read { .. } if refusal == 0 => rest.to_string(),
+            IndexCall::Read { .. } => format!("refusal {refusal}"),
+            _ if refusal == 0 => format!("{result} places, list {rest}"),
+            _ => format!("refusal {refusal}, list {rest}"),
+        },
         Step::Image(_) | Step::Session(_) | Step::Open(_) => String::new(),
     }
 }
@@ -314,6 +325,7 @@ fn the_sample_covers_what_it_should() {
     assert!(sample.tally.commands >= 2_000);
     assert_eq!(sample.tally.missing(3, 20), Vec::<String>::new());
     assert!((60..=140).contains(&sample.tally.moves));
+    assert!((300..=500).contains(&sample.tally.index.calls()));
     let lines = sample.stdout.lines().count() as u64;
     assert_eq!(lines, sample.tally.calls());
     assert_eq!(Sample::generate(sample::SEED).stdin, sample.stdin);

@@ -1,13 +1,13 @@
-//! The six functions of `include/malquindo.h`, declared as they stand there, and the same
-//! functions on slices ([`open`], [`command`], [`move_card`], [`file`](fn@file) and
-//! [`certificate`]), which are safe to call.
+//! The nine functions of `include/malquindo.h`, declared as they stand there, and the same
+//! functions on slices ([`open`], [`command`], [`move_card`], [`file`](fn@file), [`certificate`],
+//! [`index_build`], [`index_extend`] and [`index_read`]), which are safe to call.
 //!
 //! Most callers want the crate `malquindo`, which has types for sessions, answers and refusals.
 //!
-//! What the caller of a function in C owes, and nothing checks: each pointer is to as many bytes
-//! as its length says, valid for reading and, where it is `*mut`, for writing; no argument that is
-//! written overlaps another; no pointer is null, even where the length is 0. No function keeps a
-//! pointer.
+//! What the caller of a function in C owes, and nothing checks: each pointer is to as many
+//! elements as its length says, aligned for them, valid for reading and, where it is `*mut`, for
+//! writing; no argument that is written overlaps another; no pointer is null, even where the
+//! length is 0. No function keeps a pointer.
 
 #![no_std]
 
@@ -58,6 +58,36 @@ extern "C" {
         desk: *const u8,
         desk_len: usize,
         reference: u8,
+    ) -> u64;
+
+    /// Builds an index of a body's records. The result is refusal * 2^32 + places written.
+    pub fn malquindo_index_build(
+        kind: u16,
+        body: *const u8,
+        body_len: usize,
+        places: *mut u32,
+        places_len: usize,
+    ) -> u64;
+
+    /// Extends an index of n places by the body's last record. The result is refusal * 2^32 +
+    /// n + 1.
+    pub fn malquindo_index_extend(
+        kind: u16,
+        body: *const u8,
+        body_len: usize,
+        places: *mut u32,
+        places_len: usize,
+        n: usize,
+    ) -> u64;
+
+    /// The record of a number, by its place in a list. The result is refusal * 2^32 + length of
+    /// the record.
+    pub fn malquindo_index_read(
+        body: *const u8,
+        body_len: usize,
+        places: *const u32,
+        places_len: usize,
+        number: usize,
     ) -> u64;
 }
 
@@ -132,6 +162,54 @@ pub fn certificate(card: &[u8], desk: &[u8], reference: u8) -> u64 {
             desk.as_ptr(),
             desk.len(),
             reference,
+        )
+    }
+}
+
+/// `malquindo_index_build` on slices of any length.
+pub fn index_build(kind: u16, body: &[u8], places: &mut [u32]) -> u64 {
+    // SAFETY: pointers and lengths are those of slices, which are never null and are aligned for
+    // their elements; the slice that is written is borrowed by this call alone.
+    unsafe {
+        malquindo_index_build(
+            kind,
+            body.as_ptr(),
+            body.len(),
+            places.as_mut_ptr(),
+            places.len(),
+        )
+    }
+}
+
+/// `malquindo_index_extend` on slices of any length.
+pub fn index_extend(kind: u16, body: &[u8], places: &mut [u32], n: usize) -> u64 {
+    // SAFETY: pointers and lengths are those of slices, which are never null and are aligned for
+    // their elements; the slice that is written is borrowed by this call alone.
+    unsafe {
+        malquindo_index_extend(
+            kind,
+            body.as_ptr(),
+            body.len(),
+            places.as_mut_ptr(),
+            places.len(),
+            n,
+        )
+    }
+}
+
+/// `malquindo_index_read` on slices of any length.
+// It takes about as long as a call, so it is not to cost a second one.
+#[inline]
+pub fn index_read(body: &[u8], places: &[u32], number: usize) -> u64 {
+    // SAFETY: pointers and lengths are those of slices, which are never null and are aligned for
+    // their elements; nothing is written, so slices that overlap do no harm.
+    unsafe {
+        malquindo_index_read(
+            body.as_ptr(),
+            body.len(),
+            places.as_ptr(),
+            places.len(),
+            number,
         )
     }
 }

@@ -33,9 +33,14 @@
 //! ```
 //!
 //! [`move_card`] writes a card anew, with other rooms. [`file`](fn@file) finds a file's body in an
-//! image, and [`certificate`] the certificate that a stamp names.
+//! image, and [`certificate`] the certificate that a stamp names. An [`Index`] reads a record
+//! without a walk over those before it.
 
 #![forbid(unsafe_code)]
+
+mod index;
+
+pub use index::Index;
 
 use std::fmt;
 use std::ops::Range;
@@ -44,6 +49,8 @@ use std::ops::Range;
 pub const SESSION_LEN: usize = 25;
 /// How many bytes the response buffer of a command has at least.
 pub const RESPONSE_LEN: usize = 2_050;
+/// How many records a file has at most.
+pub const RECORDS: usize = 254;
 
 /// A session: 20 rights bytes, application, place, file id and record number.
 ///
@@ -73,6 +80,8 @@ pub enum Refusal {
     BadRights,
     /// 4: the session does not fit the image, or its bytes are malformed.
     BadSession,
+    /// 6: the body, the index or the number does not fit; the functions of [`Index`] say when.
+    BadIndex,
     /// 9: the card's body or the desk's is no well-formed body of travel certificates.
     BadCertificates,
     /// 10: the list of rooms lays out no valid image.
@@ -96,6 +105,7 @@ impl Refusal {
             Self::BadImage => 2,
             Self::BadRights => 3,
             Self::BadSession => 4,
+            Self::BadIndex => 6,
             Self::BadCertificates => 9,
             Self::BadList => 10,
             Self::MissingKind => 11,
@@ -105,21 +115,21 @@ impl Refusal {
         }
     }
 
-    /// The refusal of this number; 0 is none.
-    fn of_number(number: u32) -> Option<Self> {
-        Some(match number {
-            0 => return None,
+    /// The refusal of this number, which is not 0.
+    fn of_number(number: u32) -> Self {
+        match number {
             1 => Self::ShortBuffer,
             2 => Self::BadImage,
             3 => Self::BadRights,
             4 => Self::BadSession,
+            6 => Self::BadIndex,
             9 => Self::BadCertificates,
             10 => Self::BadList,
             11 => Self::MissingKind,
             12 => Self::SmallRoom,
             13 => Self::ShortTarget,
             other => Self::Unknown(other),
-        })
+        }
     }
 }
 
@@ -130,6 +140,7 @@ impl fmt::Display for Refusal {
             Self::BadImage => "the image is not well formed",
             Self::BadRights => "the rights are not 60 bytes",
             Self::BadSession => "the session does not fit the image, or is malformed",
+            Self::BadIndex => "the body, the index or the number does not fit",
             Self::BadCertificates => "a body of travel certificates is not well formed",
             Self::BadList => "the list of rooms lays out no valid image",
             Self::MissingKind => "a file of the old card has no room in the list",
@@ -143,10 +154,11 @@ impl fmt::Display for Refusal {
 impl std::error::Error for Refusal {}
 
 /// The low 32 bits of a result, or the refusal that its high 32 bits say.
+#[inline]
 fn accepted(result: u64) -> Result<u32, Refusal> {
-    match Refusal::of_number((result >> 32) as u32) {
-        None => Ok(result as u32),
-        Some(refusal) => Err(refusal),
+    match (result >> 32) as u32 {
+        0 => Ok(result as u32),
+        number => Err(Refusal::of_number(number)),
     }
 }
 
@@ -339,7 +351,7 @@ mod tests {
         for number in 1..20 {
             let refusal = accepted(u64::from(number) << 32).unwrap_err();
             assert_eq!(refusal.number(), number);
-            let known = matches!(number, 1..=4 | 9..=13);
+            let known = matches!(number, 1..=4 | 6 | 9..=13);
             assert_eq!(refusal == Refusal::Unknown(number), !known);
         }
     }

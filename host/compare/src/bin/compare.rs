@@ -12,7 +12,8 @@ fn main() -> ExitCode {
     let start = Instant::now();
     match compare(seed, calls) {
         Ok(tally) => {
-            println!("seed {seed}: no difference in {} calls", tally.calls());
+            let (calls, index) = (tally.calls(), tally.index.calls());
+            println!("seed {seed}: no difference in {calls} calls, {index} of them of an index");
             println!("{:.1} seconds\n", start.elapsed().as_secs_f64());
             print!("{tally}");
             ExitCode::SUCCESS
