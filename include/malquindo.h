@@ -123,7 +123,8 @@ uint64_t malquindo_certificate(const uint8_t *card, size_t card_len, const uint8
 /* An index: a list of places, one for each record of a file's body, so that a record is read without a walk over those before
  * it. A place is where the length of the record (2 bytes, little-endian) stands in the body, counted in bytes from the body's
  * first; the record begins 2 bytes behind it. The body is that of a record file of a card image; malquindo_file tells where
- * it stands. The caller keeps the list. MALQUINDO_RECORDS entries are enough for any file.
+ * it stands. Another body of that form does, too, and may be longer than an image. The caller keeps the list.
+ * MALQUINDO_RECORDS entries are enough for any file.
  *
  * Build the index once. After each APPEND RECORD to the file that is answered 0x9000, extend it. Then it has the place of
  * every record, whatever other commands are run. A move changes no place either: lend the body of the new image. */
