@@ -12,7 +12,7 @@
  *     for reading and, where it is not const, for writing;
  *   - no buffer that is written overlaps another buffer of the call;
  *   - no pointer is null, even where the length is 0.
- * Beyond that every function takes any bytes and any lengths, and always returns.
+ * Beyond that every function takes any bytes, lengths and numbers, and always returns.
  *
  * Results. A result is one number of 64 bits. malquindo_file refuses nothing, and its result stands with it. Of the other
  * functions the upper 32 bits are the refusal, 0 where the call is not refused:
@@ -21,7 +21,7 @@
  *    3  open           the rights are not MALQUINDO_RIGHTS_LEN bytes
  *    4  open           the session buffer is shorter than MALQUINDO_SESSION_LEN
  *       command        it is shorter, its bytes are no session, or the session does not fit the image
- *    6  index          the body, the list or the number does not fit; what that is stands with each function
+ *    6  index          the body, the list or the number does not fit; each function says when
  *    9  certificate    the card's body or the desk's body is not well formed
  *   10  move           the list lays out no valid image
  *   11  move           a kind of the old image is not in the list
@@ -127,7 +127,8 @@ uint64_t malquindo_certificate(const uint8_t *card, size_t card_len, const uint8
  * MALQUINDO_RECORDS entries are enough for any file.
  *
  * Build the index once. After each APPEND RECORD to the file that is answered 0x9000, extend it. Then it has the place of
- * every record, whatever other commands are run. A move changes no place either: lend the body of the new image. */
+ * every record, whatever other commands are run. If an append was missed, build anew. A move changes no place either: lend
+ * the body of the new image. */
 
 /* Builds an index: writes the places of all records into the first entries of the list, in the order of the records. Entries
  * behind them stay as they came. The lower 32 bits of the result are the number of places, which is that of the records.
@@ -141,19 +142,20 @@ uint64_t malquindo_index_build(uint16_t kind, const uint8_t *body, size_t body_l
  * n + 1.
  *
  * Refusal 6: the kind is not that of a record file; the body is not well formed for it; it has not n + 1 records; the list
- * has no entry places[n]. The list then stays as it came. */
+ * has no entry places[n]. The list then stays as it came, and still holds n places: on a refusal the result does not tell
+ * how many. */
 uint64_t malquindo_index_extend(uint16_t kind, const uint8_t *body, size_t body_len, uint32_t *places, size_t places_len,
                                 size_t n);
 
 /* Reads the record of a number, counted from 1, by its place in a list alone. Here places_len is the number of places that
- * the list holds, and not the room that it has. The lower 32 bits of the result are the length of the record, whose bytes
- * begin at body[places[number - 1] + 2]. Body and list are only read.
+ * the list holds, and not the room that it has. The lower 32 bits of the result are the length of the record;
+ * malquindo_index_record tells where it begins. Body and list are only read.
  *
  * Nothing else of the body or of the list is looked at: for a list that was not built from this body, the record is what the
  * length at the place says, and may have no byte or more than any record of a file.
  *
- * Refusal 6: the number is 0 or above places_len; the length at the place, or as many bytes behind it, go past the end of
- * the body. */
+ * Refusal 6: the number is 0 or above places_len; the length field at the place, or the bytes that it counts, go past the
+ * end of the body. */
 uint64_t malquindo_index_read(const uint8_t *body, size_t body_len, const uint32_t *places, size_t places_len,
                               size_t number);
 
@@ -187,6 +189,11 @@ static inline size_t malquindo_certificate_length(uint64_t result) { return (siz
 static inline size_t malquindo_index_places(uint64_t result) { return (size_t)(result & 0xFFFFFFFF); }
 /* Of reading by an index: the length of the record. */
 static inline size_t malquindo_index_length(uint64_t result) { return (size_t)(result & 0xFFFFFFFF); }
+/* Where the record of a number begins, once it was read by this list: 2 bytes behind its place. */
+static inline const uint8_t *malquindo_index_record(const uint8_t *body, const uint32_t *places, size_t number)
+{
+    return body + places[number - 1] + 2;
+}
 
 #ifdef __cplusplus
 }

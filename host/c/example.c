@@ -85,11 +85,13 @@ static int indexed(void)
     result = malquindo_index_read(body, body_len, places, n, n);
     if (malquindo_refusal(result) != 0)
         return 1;
-    const uint8_t *record = body + places[n - 1] + 2;
+    const uint8_t *record = malquindo_index_record(body, places, n);
     size_t length = malquindo_index_length(result);
     printf("record %u, by the index: ", (unsigned)n);
     print(record, length);
-    return run(larger, sizeof larger, read, sizeof read) || memcmp(response, record, length) != 0;
+    if (run(larger, sizeof larger, read, sizeof read))
+        return 1;
+    return memcmp(response, record, length) != 0 || response[length] != 0x90; /* the status word stands behind the record */
 }
 
 int main(void)

@@ -453,7 +453,8 @@ class Indexes(Case):
             self.assertEqual(answer, (index.read(body, number), 0x9000))
         # A move changes no place.
         larger = malquindo.move_card(image, [(0x0101, 500), (0x0102, 2), (0x011A, 2)])
-        self.assertEqual(index.read(memoryview(larger)[place:], 20), index.read(body, 20))
+        place, length = malquindo.file(larger, 0x0101)
+        self.assertEqual(index.read(memoryview(larger)[place:place + length], 20), index.read(body, 20))
 
     def test_other_entries_stay(self):
         places = self.entries(6)

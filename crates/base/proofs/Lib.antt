@@ -1,5 +1,6 @@
--- Laws that the proofs of the other crates cite: of choices, of stored runs, of parts, of parts that are returned. `Determined` is about the contracts here.
+-- Laws that the proofs of the other crates cite: of choices, of lists, of stored runs, of parts, of parts that are returned. `Determined` is about the contracts here.
 pub mod Cases
+pub mod Lists
 pub mod Runs
 pub mod Parts
 pub mod Lending

@@ -16,9 +16,9 @@ pub record PartOf (s : RefT (List ℕ)) (a n : ℕ) (r : RefT (List ℕ)) : Type
   pub bytes : now r ≡ part (now s) a n
 
 -- the n bytes from a on are all there [V11]
-unfoldable pub cutFits : List ℕ → ℕ → ℕ → Bool
-cutFits xs a n = leb (a + n) (length xs)
+unfoldable pub wholeFits : List ℕ → ℕ → ℕ → Bool
+wholeFits xs a n = leb (a + n) (length xs)
 
--- r is what is cut out of s for them: that part of s, or where not all of them are there, the empty part at its start [V11]
-abbrev pub CutOf : RefT (List ℕ) → ℕ → ℕ → RefT (List ℕ) → Type 0
-CutOf s a n r = PartOf s (ifElse (cutFits (now s) a n) a 0) (ifElse (cutFits (now s) a n) n 0) r
+-- r is that part of s; where not all of them are there, r is the empty part at its start [V11]
+abbrev pub WholePart : RefT (List ℕ) → ℕ → ℕ → RefT (List ℕ) → Type 0
+WholePart s a n r = PartOf s (ifElse (wholeFits (now s) a n) a 0) (ifElse (wholeFits (now s) a n) n 0) r

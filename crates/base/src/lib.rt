@@ -6,7 +6,7 @@ ghost use Prim.Native.Nat.{_+_, _≤_, _<_};
 ghost use lib.ListN.{length, getD};
 ghost use lib.Seq.{sets};
 ghost use Rattle.base.specs.Bytes.{part as partOf, putFits as fitsAt, put as putAt};
-ghost use Rattle.base.specs.Lent.{CutOf};
+ghost use Rattle.base.specs.Lent.{WholePart};
 
 // The byte at i, and 0 past the end.
 pub fn byte(s: &[u8], i: usize) -> usize
@@ -33,9 +33,9 @@ pub fn part(s: &[u8], a: usize, n: usize) -> &[u8]
     &s[a..e]
 }
 
-// The n bytes from `a` on, as that very part of s; the empty part at its start where s has not all of them.
-pub fn cut(s: &[u8], a: usize, n: usize) -> &[u8]
-    ensures { λ r. ⌜ CutOf (s .entry) a n r ⌝ }
+// The n bytes from `a` on, as that very part of s, and whole; the empty part at its start where s has not all of them.
+pub fn whole_part(s: &[u8], a: usize, n: usize) -> &[u8]
+    ensures { λ r. ⌜ WholePart (s .entry) a n r ⌝ }
 {
     if s.len() < a {
         return &s[0..0];

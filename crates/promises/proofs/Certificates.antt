@@ -1,6 +1,6 @@
 -- The certificate that a stamp names: what the result of `malquindo_certificate` tells, and that a certificate stays over any calls. Read before:
 -- ../specs/Certificates.antt, Bodies.antt, proofs/Locating.antt of store_certificates. Exports `c-certificate`, `c-certificate-kept`.
-use Prim.Native.Nat.{ℕ, _+_, _-_, _*_, _%_, _≤_, _<_}
+use Prim.Native.Nat.{ℕ, _+_, _*_, _%_, _≤_, _<_}
 use mathlib.Core.Path.{_≡_, refl, sym, ap, ap₂, _∙_}
 use mathlib.Core.Bool.{true, false, _&&_, and-true}
 use mathlib.Core.List.{List, [], _∷_, _++_, List·Memᴰ·head, List·Memᴰ·tail}

@@ -1,30 +1,31 @@
 -- An index: what the three results tell, and that an index that is kept stays right over any calls.
 -- Read before: ../specs/Index.antt, proofs/Keeping.antt of store_index. Exports `c-index-builds`, `c-index-extends`, `c-index-reads`, `c-index-kept`,
--- `c-index-replies`.
-use Prim.Native.Nat.{ℕ, zero, suc, _+_, _-_, _*_, _/_, _≤_, _<_}
+-- `c-index-room`, `c-index-replies`.
+use Prim.Native.Nat.{ℕ, _+_, _-_, _*_, _/_, _≤_, _<_}
 use mathlib.Core.Path.{_≡_, refl, sym, ap, ap₂, _∙_, subst}
 use mathlib.Core.Bool.{Bool, true, false}
 use mathlib.Core.List.{List, [], _∷_, _++_, append-assoc, append-nil}
 use native.Mathlib.Omega.{arith}
 use lib.ListN.{length, getD, take, drop, set, length-set, length-append}
-use lib.Seq.{length-sets, getD-take, getD-set-same, getD-set-other}
-use lib.Dec.{leb, eqb}
-use borrow.Author.Tests.{leb-true, leb-false, eqb-true, eqb-false}
+use lib.Seq.{length-sets, getD-set-same, getD-set-other}
+use lib.Dec.{eqb}
+use borrow.Author.Tests.{eqb-true, eqb-false}
 use Rattle.base.specs.Choice.{ifElse, allOf}
 use Rattle.base.specs.Bytes.{part, AllBytes}
 use Rattle.base.proofs.Cases.{false-true, by-cases}
 use Rattle.base.proofs.Runs.{drop-sets-past}
 use Rattle.store_records.specs.Little.{le16}
 use Rattle.store_records.specs.Body.{count, place, records, nth}
+use Rattle.store_records.proofs.Numbers.{le16-small}
 use Rattle.store_records.proofs.Bodies.{records-length}
 use Rattle.store_kinds.specs.Rules.{isBiometrics}
 use Rattle.store_image.specs.Image.{has, body, wellFormed, recordsOf}
-use Rattle.store_image.proofs.Laws.{body-wellFormed}
-use Rattle.store_index.specs.Index.{placesTo, recordFileOk, buildOk, build, buildInto, extendOk, extend, extendInto, readOk, measure}
+use Rattle.store_image.proofs.Laws.{biometrics-unruled, body-wellFormed}
+use Rattle.store_index.specs.Index.{placesTo, recordFileOk, buildOk, build, buildInto, extendOk, extend, extendInto, readOk, measure, IndexedPart}
 use Rattle.store_index.specs.declared.Indexed.the-variants.{Counted, Refused}
-use Rattle.store_index.proofs.Places.{length-places, getD-places, recordFileOk-kind, recordFileOk-few, recordFileOk-row, row-recordFileOk}
+use Rattle.store_index.proofs.Places.{length-places, recordFileOk-kind, recordFileOk-few, recordFileOk-row, row-recordFileOk}
 use Rattle.store_index.proofs.Answering.{buildOk-facts, buildOk-accepted, build-refused, extendOk-facts, extendOk-accepted, extend-refused, extend-done, readOk-facts, readOk-accepted, measure-refused, measure-whole}
-use Rattle.store_index.proofs.Keeping.{build-counts, build-list, build-holds, Read, reads-record, reads-zero, reads-past, count-later, build-same, extend-more}
+use Rattle.store_index.proofs.Keeping.{build-counts, build-list, build-holds, build-entry, Read, reads-record, reads-none, read-returns, count-later, build-same, extend-more}
 use Rattle.machine_session.specs.Session.{placeRecord}
 use Rattle.machine_session.specs.declared.Session.{Session}
 use Rattle.machine_apdu.specs.Shape.{shapeOf}
@@ -34,12 +35,12 @@ use Rattle.machine_apdu.specs.declared.Frame.{Frame}
 use Rattle.machine_answer.specs.Outcome.{Outcome}
 use Rattle.machine_session_bytes.specs.Layout.{sessionIn}
 use Rattle.malquindo.specs.Face.{called, indexResult}
-use Rattle.promises.specs.Files.{isMeantKind}
+use Rattle.promises.specs.Files.{isMeantRow, isMeantKind}
 use Rattle.promises.specs.Calls.{isPair, addedBy}
-use Rattle.promises.specs.Promises.{Reads}
+use Rattle.promises.specs.Promises.{dataIn, Reads}
 use Rattle.promises.specs.Linked.{refusalIn, statusIn, seen, CCall, OpenC, CommandC, MoveC, afterCallC, afterC, addedC, additionsC, historyC}
 use Rattle.promises.specs.Bodies.{lentBody}
-use Rattle.promises.specs.Index.{indexedIn, BuildC, C-index-builds, ExtendC, C-index-extends, Readable, ReadC, C-index-reads, KeptIndex, builtC, extendedC, indexAfterC, readResult, readBytes, Right, C-index-kept, numberAsked, C-index-replies}
+use Rattle.promises.specs.Index.{indexedIn, BuildC, C-index-builds, ExtendC, C-index-extends, Readable, ReadC, C-index-reads, CallerIndex, builtC, extendedC, indexAfterC, indexReadResult, indexBytes, ReadsRecords, C-index-kept, C-index-room, numberAsked, C-index-replies}
 use Rattle.promises.proofs.Naming.{kind-meant}
 use Rattle.promises.proofs.Calling.{c-holds, c-reads-history}
 use Rattle.promises.proofs.Bodies.{lentBody-is, lent-records, lent-grown}
@@ -69,10 +70,14 @@ refuses r e = record { six = e; refusal = omega arith; low = omega arith }
 -- ---- build
 
 module _ (k : ℕ) (xs ps : List ℕ) where
+  built-tells : recordFileOk k xs ≡ true → count xs ≤ length ps → Tells (indexResult (build k xs ps)) (count xs)
+  built-tells e h =
+      let few = recordFileOk-few k xs e in
+      tells (indexResult (build k xs ps)) (count xs) (ap indexResult (build-counts k xs ps e h)) (omega arith)
+
   built : recordFileOk k xs ≡ true → count xs ≤ length ps → BuildC k xs ps (indexResult (build k xs ps)) (buildInto k xs ps)
   built e h =
-      let few = recordFileOk-few k xs e in
-      let t = tells (indexResult (build k xs ps)) (count xs) (ap indexResult (build-counts k xs ps e h)) (omega arith) in
+      let t = built-tells e h in
       let l = build-list k xs ps e h in
       let c = records-length xs in
       record {
@@ -80,10 +85,7 @@ module _ (k : ℕ) (xs ps : List ℕ) where
         refused-sound = λ g. absurd (omega (arith, t .refusal));
         refused-kept = λ g. absurd (omega (arith, t .refusal));
         number = λ _. t .whole ∙ sym c;
-        places = λ _ n i.
-            sym (getD-take (count xs) (buildInto k xs ps) (n - 1) 0 (omega (arith, i .0, i .1)))
-            ∙ ap (λ (m : List ℕ). getD m (n - 1) 0) (build-holds k xs ps e h)
-            ∙ getD-places xs (count xs) (n - 1) (omega (arith, i .0, i .1));
+        places = λ _ n i. build-entry k xs ps e h n (i .0) (omega (arith, i .1));
         rest-kept = ap (drop (indexedIn (indexResult (build k xs ps)))) l
             ∙ drop-sets-past (indexedIn (indexResult (build k xs ps))) ps 0 (placesTo xs (count xs)) (omega (arith, t .low, length-places xs (count xs)));
         size-kept = ap length l ∙ length-sets ps 0 (placesTo xs (count xs));
@@ -147,11 +149,6 @@ c-index-extends k xs ps n =
 
 -- ---- read
 
--- two bytes are below 65,536
-le16-small : (xs : List ℕ) (p : ℕ) → AllBytes xs → le16 xs p < 65536
-unfolding le16 AllBytes
-le16-small xs p b = let l = b p in let h = b (p + 1) in omega arith
-
 module _ (xs ps : List ℕ) (n : ℕ) (b : AllBytes xs) where
   read : Readable xs ps n → ReadC xs ps n (indexResult (measure xs ps n))
   read y =
@@ -197,14 +194,8 @@ added-few k img (OpenC rights ses) = omega arith
 added-few k img (CommandC ses cmd buf) = addedBy-few k (sessionIn ses) cmd (statusIn (called img ses cmd buf .result)) (shapeOf cmd)
 added-few k img (MoveC list t) = omega arith
 
--- how many places are filled
-filled-is : (k : ℕ) (xs ps : List ℕ) → recordFileOk k xs ≡ true → count xs ≤ length ps → indexedIn (indexResult (build k xs ps)) ≡ count xs
-filled-is k xs ps e h =
-    let few = recordFileOk-few k xs e in
-    tells (indexResult (build k xs ps)) (count xs) (ap indexResult (build-counts k xs ps e h)) (omega arith) .low
-
 -- two indexes with the same list and as many places
-kept-same : {l m : List ℕ} {i j : ℕ} → l ≡ m → i ≡ j → _≡_ {A = KeptIndex} (record { entries = l; filled = i }) (record { entries = m; filled = j })
+kept-same : {l m : List ℕ} {i j : ℕ} → l ≡ m → i ≡ j → _≡_ {A = CallerIndex} (record { entries = l; filled = i }) (record { entries = m; filled = j })
 kept-same p q t = record { entries = p t; filled = q t }
 
 module _ (k : ℕ) (ps : List ℕ) (b : isBiometrics k ≡ false) where
@@ -212,23 +203,25 @@ module _ (k : ℕ) (ps : List ℕ) (b : isBiometrics k ≡ false) where
   file-ok img o h = ap (recordFileOk k) (lentBody-is img k o) ∙ sym (recordFileOk-kind k (body img k) b) ∙ body-wellFormed img k o h
 
   -- the body that is lent goes on by ds: what is built, and then extended where there is something new, is what would be built
-  extended-built : (xs new : List ℕ) (img : List ℕ) (ds : List (List ℕ)) → new ≡ lentBody img k → recordFileOk k xs ≡ true → recordFileOk k new ≡ true
-      → records new ≡ records xs ++ ds → length ds ≤ 1 → count new ≤ length ps
+  extended-built : (xs img : List ℕ) (ds : List (List ℕ)) → recordFileOk k xs ≡ true → recordFileOk k (lentBody img k) ≡ true
+      → records (lentBody img k) ≡ records xs ++ ds → length ds ≤ 1 → count (lentBody img k) ≤ length ps
       → extendedC k img ds (record { entries = buildInto k xs ps; filled = indexedIn (indexResult (build k xs ps)) })
-      ≡ record { entries = buildInto k new ps; filled = indexedIn (indexResult (build k new ps)) }
-  extended-built xs new img [] n e f g few room =
-      let c = count-later k xs new ps [] e f g room in
-      kept-same (sym (build-same k xs new ps [] e f g room refl)) (filled-is k xs ps e (omega arith) ∙ sym (filled-is k new ps f room ∙ c ∙ omega arith))
-  extended-built xs new img (d ∷ ds) n e f g few room =
-      let c = count-later k xs new ps (d ∷ ds) e f g room in
-      let i = filled-is k xs ps e (omega arith) in
-      let x = extend-more k xs new ps (d ∷ ds) e f g room (omega arith) in
+      ≡ record { entries = buildInto k (lentBody img k) ps; filled = indexedIn (indexResult (build k (lentBody img k) ps)) }
+  extended-built xs img [] e f g few room =
+      let new : List ℕ = lentBody img k in
+      let c = count-later k xs new [] e f g in
+      kept-same (sym (build-same k xs new [] e f g ps room refl)) (built-tells k xs ps e (omega arith) .low ∙ sym (built-tells k new ps f room .low ∙ c ∙ omega arith))
+  extended-built xs img (d ∷ ds) e f g few room =
+      let new : List ℕ = lentBody img k in
+      let c = count-later k xs new (d ∷ ds) e f g in
+      let i = built-tells k xs ps e (omega arith) .low in
+      let x = extend-more k xs new (d ∷ ds) e f g ps room (omega arith) in
       let small = recordFileOk-few k new f in
       kept-same
-      (ap₂ (λ (y : List ℕ) (m : ℕ). extendInto k y (buildInto k xs ps) m) (sym n) i ∙ x .1)
-      (ap₂ (λ (y : List ℕ) (m : ℕ). indexedIn (indexResult (extend k y (buildInto k xs ps) m))) (sym n) i
+      (ap (extendInto k new (buildInto k xs ps)) i ∙ x .1)
+      (ap (λ (m : ℕ). indexedIn (indexResult (extend k new (buildInto k xs ps) m))) i
       ∙ tells _ (count new) (ap indexResult (x .0)) (omega arith) .low
-      ∙ sym (filled-is k new ps f room))
+      ∙ sym (built-tells k new ps f room .low))
 
   -- the history of what follows a call is that of the call and what follows
   history-step : (img : List ℕ) (c : CCall) (cs : List CCall) → wellFormed img ≡ true → historyC k (afterCallC img c) cs ≡ historyC k img (c ∷ cs)
@@ -249,7 +242,7 @@ module _ (k : ℕ) (ps : List ℕ) (b : isBiometrics k ≡ false) where
   unfolding builtC afterC additionsC
   step-built img c o h r =
       let w = c-holds img (c ∷ []) o in
-      extended-built (lentBody img k) (lentBody (afterCallC img c) k) (afterCallC img c) (addedC k img c) refl (file-ok img o h)
+      extended-built (lentBody img k) (afterCallC img c) (addedC k img c) (file-ok img o h)
       (file-ok (afterCallC img c) (w .well) (w .files k h))
       (lent-grown img k (c ∷ []) o b ∙ ap (λ (l : List (List ℕ)). records (lentBody img k) ++ l) (append-nil (addedC k img c)))
       (added-few k img c) r
@@ -263,22 +256,21 @@ module _ (k : ℕ) (ps : List ℕ) (b : isBiometrics k ≡ false) where
       let new : List ℕ = afterCallC img c in
       let w = c-holds img (c ∷ []) o in
       let s = history-step img c cs o in
-      let y = file-ok new (w .well) (w .files k h) in
-      ap (λ (x : KeptIndex). indexAfterC k new x cs) (step-built img c o h (fits new cs (w .well) (omega (arith, ap length s))))
+      ap (λ (x : CallerIndex). indexAfterC k new x cs) (step-built img c o h (fits new cs (w .well) (omega (arith, ap length s))))
       ∙ kept-built new cs (w .well) (w .files k h) (omega (arith, ap length s))
 
   -- what was built on an image reads the records of its file
-  built-right : (img : List ℕ) → wellFormed img ≡ true → has img k ≡ true → count (lentBody img k) ≤ length ps
-      → Right (lentBody img k) (records (lentBody img k)) (builtC k img ps)
-  unfolding builtC readResult readBytes
-  built-right img o h room =
+  built-reads : (img : List ℕ) → wellFormed img ≡ true → has img k ≡ true → count (lentBody img k) ≤ length ps
+      → ReadsRecords (lentBody img k) (records (lentBody img k)) (builtC k img ps)
+  unfolding builtC indexReadResult indexBytes
+  built-reads img o h room =
       record {
         filled = i ∙ sym c;
-        few = omega (arith, i, recordFileOk-few k xs e);
         bytes = λ n f l. let r = reads-record k xs e n f (omega (arith, c)) in
-            ap₂ (λ (p m : ℕ). part xs (p + 2) m) (at n f (omega (arith, c))) (tells _ _ (told n r) (omega (arith, r .small)) .low) ∙ r .bytes;
+            ap₂ (λ (p m : ℕ). part xs (p + 2) m) (build-entry k xs ps e room n f (omega (arith, c))) (tells _ _ (told n r) (omega (arith, r .small)) .low) ∙ r .bytes;
         size = λ n f l. let r = reads-record k xs e n f (omega (arith, c)) in tells _ _ (told n r) (omega (arith, r .small)) .whole;
-        no-other = λ n f. refuses _ (ap (λ (l : List ℕ). indexResult (measure xs l n)) lent ∙ ap indexResult (none n f)) .six;
+        no-other = λ n f. refuses _ (ap (λ (l : List ℕ). indexResult (measure xs l n)) lent ∙ ap indexResult (reads-none k xs e n (λ g l. f g (omega (arith, c))))) .six;
+        returned = λ n f l body r b p. read-returns k xs e body r n b f (omega (arith, c)) (subst (λ (m : List ℕ). IndexedPart (measure xs m n) m n body r) lent p);
       }
     where
       xs : List ℕ
@@ -291,7 +283,7 @@ module _ (k : ℕ) (ps : List ℕ) (b : isBiometrics k ≡ false) where
       c = records-length xs
 
       i : indexedIn (indexResult (build k xs ps)) ≡ count xs
-      i = filled-is k xs ps e room
+      i = built-tells k xs ps e room .low
 
       -- the places that are lent
       lent : take (indexedIn (indexResult (build k xs ps))) (buildInto k xs ps) ≡ placesTo xs (count xs)
@@ -300,27 +292,27 @@ module _ (k : ℕ) (ps : List ℕ) (b : isBiometrics k ≡ false) where
       told : (n : ℕ) → Read k xs e n → indexResult (measure xs (take (indexedIn (indexResult (build k xs ps))) (buildInto k xs ps)) n) ≡ indexResult (Counted (length (nth (records xs) n)))
       told n r = ap (λ (l : List ℕ). indexResult (measure xs l n)) lent ∙ ap indexResult (r .counted)
 
-      none : (n : ℕ) → (1 ≤ n → n ≤ length (records xs) → ⊥) → measure xs (placesTo xs (count xs)) n ≡ Refused
-      none zero f = reads-zero k xs e
-      none (suc n) f =
-          by-cases (leb (suc n) (count xs))
-          (λ t. absurd (f (omega arith) (omega (arith, c, leb-true (suc n) (count xs) t))))
-          (λ t. reads-past k xs e (suc n) (leb-false (suc n) (count xs) t))
-
-      at : (n : ℕ) → 1 ≤ n → n ≤ count xs → getD (buildInto k xs ps) (n - 1) 0 ≡ getD (placesTo xs (count xs)) (n - 1) 0
-      at n f l = sym (getD-take (count xs) (buildInto k xs ps) (n - 1) 0 (omega arith)) ∙ ap (λ (m : List ℕ). getD m (n - 1) 0) (build-holds k xs ps e room)
+-- the records of the body that is lent are the history
+lent-history : (k : ℕ) (img : List ℕ) (calls : List CCall) → wellFormed img ≡ true → isBiometrics k ≡ false → records (lentBody (afterC img calls) k) ≡ historyC k img calls
+lent-history k img calls o b = let w = c-holds img calls o in lent-records (afterC img calls) k (w .well) ∙ w .records k b
 
 pub c-index-kept : C-index-kept
 c-index-kept k img ps calls o h b room =
     let w = c-holds img calls o in
     let new : List ℕ = afterC img calls in
-    let rs : records (lentBody new k) ≡ historyC k img calls = lent-records new k (w .well) ∙ w .records k b in
+    let rs = lent-history k img calls o b in
     let built = kept-built k ps b img calls o h room in
-    let r = built-right k ps b new (w .well) (w .files k h) (omega (arith, records-length (lentBody new k), ap length rs)) in
+    let r = built-reads k ps b new (w .well) (w .files k h) (omega (arith, records-length (lentBody new k), ap length rs)) in
     record {
-      right = subst (Right (lentBody new k) (historyC k img calls)) (sym built) (subst (λ (l : List (List ℕ)). Right (lentBody new k) l (builtC k new ps)) rs r);
+      reads = subst (ReadsRecords (lentBody new k) (historyC k img calls)) (sym built) (subst (λ (l : List (List ℕ)). ReadsRecords (lentBody new k) l (builtC k new ps)) rs r);
       as-built = built;
     }
+
+pub c-index-room : C-index-room
+c-index-room k img calls o h b =
+    let w = c-holds img calls o in
+    let new : List ℕ = lentBody (afterC img calls) k in
+    omega (arith, recordFileOk-few k new (file-ok k [] b (afterC img calls) (w .well) (w .files k h)), records-length new, ap length (lent-history k img calls o b))
 
 -- ---- READ RECORD of one record
 
@@ -332,15 +324,28 @@ module _ (s : Session) (f : Frame) (rs : ℕ → List (List ℕ)) (o : Outcome) 
       (λ e. simp e (ap placeRecord (q .by-current (eqb-true _ _ e))))
       (λ e. simp e (sym (q .by-number (eqb-false _ _ e))))
 
+-- a record file that P2 means is no biometrics file
+meant-records : (s : Session) (x k : ℕ) → isMeantKind s x k ≡ true → isBiometrics k ≡ false
+unfolding isMeantKind
+meant-records s x k m =
+    by-cases (isBiometrics k)
+    (λ b. false-true (ap (isMeantRow s x) (sym (biometrics-unruled k b)) ∙ m))
+    (λ b. b)
+
 pub c-index-replies : C-index-replies
-c-index-replies k img ps calls ses cmd buf f o h b room bytes e p one m w =
+c-index-replies k img ps calls ses cmd buf f o h room bytes e p one m w =
     let s = sessionIn ses in
     let u = seen (called (afterC img calls) ses cmd buf) in
+    let x = indexAfterC k img (builtC k img ps) calls in
+    let xs = lentBody (afterC img calls) k in
     let q = c-reads-history img calls ses cmd buf f o bytes e p w in
     let kind : q .rule .kind ≡ k = eqb-true _ _ (sym (kind-meant s (f .header .p2 / 8) (q .rule) (q .permitted .listed) (q .meant) k) ∙ m) in
     let rs : historyC (q .rule .kind) img calls ≡ historyC k img calls = ap (λ (j : ℕ). historyC j img calls) kind in
-    let right = c-index-kept k img ps calls o h b room .right in
-    q .one one
-    ∙ ap (λ (l : List (List ℕ)). nth l (q .number)) rs
-    ∙ sym (right .bytes (q .number) (q .low) (omega (arith, q .high, ap length rs)))
-    ∙ ap (readBytes (lentBody (afterC img calls) k) (indexAfterC k img (builtC k img ps) calls)) (sym (asked s f (λ j. historyC j img calls) u q))
+    let told : dataIn u ≡ nth (historyC k img calls) (q .number) = q .one one ∙ ap (λ (l : List (List ℕ)). nth l (q .number)) rs in
+    let n = asked s f (λ j. historyC j img calls) u q in
+    let last : q .number ≤ length (historyC k img calls) = omega (arith, q .high, ap length rs) in
+    let r = c-index-kept k img ps calls o h (meant-records s (f .header .p2 / 8) k m) room .reads in
+    record {
+      bytes = ap (indexBytes xs x) n ∙ r .bytes (q .number) (q .low) last ∙ sym told;
+      size = ap (indexReadResult xs x) n ∙ r .size (q .number) (q .low) last ∙ ap length (sym told);
+    }

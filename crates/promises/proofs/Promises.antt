@@ -5,7 +5,7 @@ use Rattle.promises.specs.Done.{Append-done, Update-done, Activate-done,
 use Rattle.promises.specs.Linked.{C-sees, C-malformed, C-says-no, C-gets-word, C-holds, C-number-kept, C-reads-history, C-leaves-none-out, C-opens, C-moves}
 use Rattle.promises.specs.Bodies.{C-file, C-file-stays}
 use Rattle.promises.specs.Certificates.{C-certificate, C-certificate-kept}
-use Rattle.promises.specs.Index.{C-index-builds, C-index-extends, C-index-reads, C-index-kept, C-index-replies}
+use Rattle.promises.specs.Index.{C-index-builds, C-index-extends, C-index-reads, C-index-kept, C-index-room, C-index-replies}
 use Rattle.promises.proofs.Keeping.{step-kept}
 use Rattle.promises.proofs.Opening.{opening-opened}
 use Rattle.store_move.proofs.Moves.{moveCard-numbered}
@@ -159,6 +159,9 @@ c-index-reads = index.c-index-reads
 
 pub c-index-kept : C-index-kept
 c-index-kept = index.c-index-kept
+
+pub c-index-room : C-index-room
+c-index-room = index.c-index-room
 
 pub c-index-replies : C-index-replies
 c-index-replies = index.c-index-replies

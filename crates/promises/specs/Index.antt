@@ -7,6 +7,7 @@ use mathlib.Core.Bool.{true, false}
 use mathlib.Core.List.{List, [], _∷_, List·Memᴰ}
 use lib.ListN.{length, getD, take, drop}
 use lib.Dec.{eqb}
+use denote.Ref.{RefT, now}
 use Rattle.base.specs.Choice.{ifElse}
 use Rattle.base.specs.Bytes.{part, AllBytes}
 use Rattle.store_records.specs.Little.{le16}
@@ -14,12 +15,13 @@ use Rattle.store_records.specs.Body.{place, records, nth, bodyOk}
 use Rattle.store_kinds.specs.Rules.{rules, isBiometrics}
 use Rattle.store_kinds.specs.declared.rules.Rule.{Rule}
 use Rattle.store_image.specs.Image.{has, wellFormed}
-use Rattle.store_index.specs.Index.{build, buildInto, extend, extendInto, measure}
+use Rattle.store_index.specs.Index.{build, buildInto, extend, extendInto, measure, IndexedPart}
 use Rattle.machine_session.specs.Session.{placeRecord}
 use Rattle.machine_session.specs.declared.Session.{Session}
 use Rattle.machine_apdu.specs.Shape.{shapeOf}
 use Rattle.machine_apdu.specs.declared.Apdu.the-variants.{Good}
 use Rattle.machine_apdu.specs.declared.Frame.{Frame}
+use Rattle.machine_answer.specs.Outcome.{Outcome}
 use Rattle.machine_session_bytes.specs.Layout.{sessionIn}
 use Rattle.malquindo.specs.Face.{called, indexResult}
 use Rattle.promises.specs.Files.{isMeantKind}
@@ -98,16 +100,16 @@ C-index-reads = (xs ps : List ℕ) (n : ℕ) → AllBytes xs → ReadC xs ps n (
 -- ---- an index that is kept over calls
 
 -- what a caller keeps: its list, and how many places of it are filled [R15]
-pub record KeptIndex : Type 0 where
+pub record CallerIndex : Type 0 where
   pub entries : List ℕ
   pub filled : ℕ
 
 -- built once, in the list ps [R15]
-unfoldable pub builtC : ℕ → List ℕ → List ℕ → KeptIndex
+unfoldable pub builtC : ℕ → List ℕ → List ℕ → CallerIndex
 builtC k img ps = record { entries = buildInto k (lentBody img k) ps; filled = indexedIn (indexResult (build k (lentBody img k) ps)) }
 
 -- extended on the image img, where a call has added ds to the file's records; left alone where it has added none [R15]
-abbrev pub extendedC : ℕ → List ℕ → List (List ℕ) → KeptIndex → KeptIndex
+abbrev pub extendedC : ℕ → List ℕ → List (List ℕ) → CallerIndex → CallerIndex
 extendedC k img [] x = x
 extendedC k img (d ∷ ds) x =
     record {
@@ -116,30 +118,33 @@ extendedC k img (d ∷ ds) x =
     }
 
 -- over calls: extended after each APPEND RECORD to the file that is answered 9000 (`addedC`) [R15]
-unfoldable pub indexAfterC : ℕ → List ℕ → KeptIndex → List CCall → KeptIndex
+unfoldable pub indexAfterC : ℕ → List ℕ → CallerIndex → List CCall → CallerIndex
 indexAfterC k img x [] = x
 indexAfterC k img x (c ∷ cs) = indexAfterC k (afterCallC img c) (extendedC k (afterCallC img c) (addedC k img c) x) cs
 
 -- the result of reading record n: the filled places are lent as the list [R12] [R15]
-unfoldable pub readResult : List ℕ → KeptIndex → ℕ → ℕ
-readResult xs x n = indexResult (measure xs (take (x .filled) (x .entries)) n)
+unfoldable pub indexReadResult : List ℕ → CallerIndex → ℕ → ℕ
+indexReadResult xs x n = indexResult (measure xs (take (x .filled) (x .entries)) n)
 
 -- the bytes that this result tells [X13]
-unfoldable pub readBytes : List ℕ → KeptIndex → ℕ → List ℕ
-readBytes xs x n = part xs (getD (x .entries) (n - 1) 0 + 2) (indexedIn (readResult xs x n))
+unfoldable pub indexBytes : List ℕ → CallerIndex → ℕ → List ℕ
+indexBytes xs x n = part xs (getD (x .entries) (n - 1) 0 + 2) (indexedIn (indexReadResult xs x n))
 
--- the index x is right for the body xs, whose records are rs: each number reads its record, and no other number reads [R15]
-pub record Right (xs : List ℕ) (rs : List (List ℕ)) (x : KeptIndex) : Type 0 where
+-- the index x reads the records rs of the body xs: each number its record, and no other number anything [R15]
+pub record ReadsRecords (xs : List ℕ) (rs : List (List ℕ)) (x : CallerIndex) : Type 0 where
   pub filled : x .filled ≡ length rs
-  pub few : x .filled ≤ 254
-  pub bytes : (n : ℕ) → 1 ≤ n → n ≤ length rs → readBytes xs x n ≡ nth rs n
-  pub size : (n : ℕ) → 1 ≤ n → n ≤ length rs → readResult xs x n ≡ length (nth rs n)
-  pub no-other : (n : ℕ) → (1 ≤ n → n ≤ length rs → ⊥) → readResult xs x n ≡ 6 * 4294967296
+  pub bytes : (n : ℕ) → 1 ≤ n → n ≤ length rs → indexBytes xs x n ≡ nth rs n
+  pub size : (n : ℕ) → 1 ≤ n → n ≤ length rs → indexReadResult xs x n ≡ length (nth rs n)
+  pub no-other : (n : ℕ) → (1 ≤ n → n ≤ length rs → ⊥) → indexReadResult xs x n ≡ 6 * 4294967296
+  -- and the part r that `read` of the store returns, where a body with these bytes is lent, is the record
+  pub returned : (n : ℕ) → 1 ≤ n → n ≤ length rs → (body r : RefT (List ℕ)) → now body ≡ xs
+      → IndexedPart (measure xs (take (x .filled) (x .entries)) n) (take (x .filled) (x .entries)) n body r
+      → now r ≡ nth rs n
 
--- built once and extended after each append, an index is right after any calls, for the list that demand 3 is about; and it is the one that
--- building would give then. The list must have an entry for each record that the file comes to have [R15]
+-- built once and extended after each append, an index reads, after any calls, the records of the list that demand 3 is about; and it is the one
+-- that building would give then. The list must have an entry for each record that the file comes to have [R15]
 pub record IndexKept (k : ℕ) (img ps : List ℕ) (calls : List CCall) : Type 0 where
-  pub right : Right (lentBody (afterC img calls) k) (historyC k img calls) (indexAfterC k img (builtC k img ps) calls)
+  pub reads : ReadsRecords (lentBody (afterC img calls) k) (historyC k img calls) (indexAfterC k img (builtC k img ps) calls)
   pub as-built : indexAfterC k img (builtC k img ps) calls ≡ builtC k (afterC img calls) ps
 
 -- [R15]
@@ -152,9 +157,19 @@ C-index-kept =
     → length (historyC k img calls) ≤ length ps
     → IndexKept k img ps calls
 
+-- 254 entries are enough for any file, whatever is appended to it [R15]
+abbrev pub C-index-room : Type 0
+C-index-room =
+    (k : ℕ) (img : List ℕ) (calls : List CCall) → wellFormed img ≡ true → has img k ≡ true → isBiometrics k ≡ false → length (historyC k img calls) ≤ 254
+
 -- the number that READ RECORD asks for: P1, or where P1 is 00 that of the current record [J3]
 unfoldable pub numberAsked : Session → Frame → ℕ
 numberAsked s f = ifElse (eqb (f .header .p1) 0) (placeRecord (s .place)) (f .header .p1)
+
+-- the index x reads of the body xs what READ RECORD has answered with the outcome o for record n: the same bytes, as many of them [R15]
+pub record AsReplied (xs : List ℕ) (x : CallerIndex) (n : ℕ) (o : Outcome) : Type 0 where
+  pub bytes : indexBytes xs x n ≡ dataIn o
+  pub size : indexReadResult xs x n ≡ length (dataIn o)
 
 -- so what READ RECORD answers for one record of the file is what the index reads [R15]
 abbrev pub C-index-replies : Type 0
@@ -162,7 +177,6 @@ C-index-replies =
     (k : ℕ) (img ps : List ℕ) (calls : List CCall) (ses cmd buf : List ℕ) (f : Frame)
     → wellFormed img ≡ true
     → has img k ≡ true
-    → isBiometrics k ≡ false
     → length (historyC k img calls) ≤ length ps
     → AllBytes cmd
     → shapeOf cmd ≡ Good f
@@ -170,5 +184,4 @@ C-index-replies =
     → f .header .p2 % 8 ≡ 4
     → isMeantKind (sessionIn ses) (f .header .p2 / 8) k ≡ true
     → statusIn (called (afterC img calls) ses cmd buf .result) ≡ 0x9000
-    → dataIn (seen (called (afterC img calls) ses cmd buf))
-    ≡ readBytes (lentBody (afterC img calls) k) (indexAfterC k img (builtC k img ps) calls) (numberAsked (sessionIn ses) f)
+    → AsReplied (lentBody (afterC img calls) k) (indexAfterC k img (builtC k img ps) calls) (numberAsked (sessionIn ses) f) (seen (called (afterC img calls) ses cmd buf))

@@ -13,9 +13,9 @@ use borrow.Author.Tests.{lt-leb, le-leb, leb-true}
 use denote.Ref.{RefT, now}
 use Rattle.base.specs.Choice.{allOf}
 use Rattle.base.specs.Bytes.{part}
-use Rattle.base.specs.Lent.{CutOf}
+use Rattle.base.specs.Lent.{WholePart}
 use Rattle.base.proofs.Cases.{ifElse-ind, allOf-facts, allOf-accepted}
-use Rattle.base.proofs.Lending.{cut-part}
+use Rattle.base.proofs.Lending.{wholePart-is}
 use Rattle.store_records.specs.Little.{le16}
 use Rattle.store_records.specs.Body.{count, place, records, nth, bodyOk}
 use Rattle.store_records.proofs.Bodies.{place-lt, okAt-facts, okTo-at, bodyOk-facts, nth-at}
@@ -161,20 +161,20 @@ module _ (card desk r : RefT (List ℕ)) (n : ℕ) where
   returned : (l : Located) → Answers l → CertificatePart l n card desk r → Returned
   returned l e p = subst (λ (o : Located). CertificatePart o n card desk r) (sym e) p
 
-  pub card-part : (s : Stretch) → Answers (Card s) → CutOf card (s .start) (s .length) r → Returned
+  pub card-part : (s : Stretch) → Answers (Card s) → WholePart card (s .start) (s .length) r → Returned
   card-part s e c =
       let t = told (now card) (now desk) n (Card s) e .2 in
-      let p = cut-part card (s .start) (s .length) r (t .within) c in
+      let p = wholePart-is card (s .start) (s .length) r (t .within) c in
       returned (Card s) e (p .bytes ∙ t .bytes, p)
 
-  pub desk-part : (s : Stretch) → Answers (Desk s) → CutOf desk (s .start) (s .length) r → Returned
+  pub desk-part : (s : Stretch) → Answers (Desk s) → WholePart desk (s .start) (s .length) r → Returned
   desk-part s e c =
       let t = told (now card) (now desk) n (Desk s) e .3 in
-      let p = cut-part desk (s .start) (s .length) r (t .within) c in
+      let p = wholePart-is desk (s .start) (s .length) r (t .within) c in
       returned (Desk s) e (p .bytes ∙ t .bytes, p)
 
-  pub missing-part : Answers Missing → CutOf card 0 0 r → Returned
-  missing-part e c = let p = cut-part card 0 0 r (omega arith) c in returned Missing e (p .bytes, p)
+  pub missing-part : Answers Missing → WholePart card 0 0 r → Returned
+  missing-part e c = let p = wholePart-is card 0 0 r (omega arith) c in returned Missing e (p .bytes, p)
 
-  pub refused-part : Answers Refused → CutOf card 0 0 r → Returned
-  refused-part e c = let p = cut-part card 0 0 r (omega arith) c in returned Refused e (p .bytes, p)
+  pub refused-part : Answers Refused → WholePart card 0 0 r → Returned
+  refused-part e c = let p = wholePart-is card 0 0 r (omega arith) c in returned Refused e (p .bytes, p)

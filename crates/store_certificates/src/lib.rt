@@ -75,9 +75,9 @@ pub fn named_certificate<'a>(card: &'a [u8], desk: &'a [u8], reference: u8) -> &
     ensures { λ r. ⌜ CertificatePart (located (now (card .entry)) (now (desk .entry)) reference) reference (card .entry) (desk .entry) r ⌝ }
 {
     match locate(card, desk, reference) {
-        Located::Card(s) => base::cut(card, s.start, s.length),
-        Located::Desk(s) => base::cut(desk, s.start, s.length),
-        Located::Missing => base::cut(card, 0, 0),
-        Located::Refused => base::cut(card, 0, 0),
+        Located::Card(s) => base::whole_part(card, s.start, s.length),
+        Located::Desk(s) => base::whole_part(desk, s.start, s.length),
+        Located::Missing => base::whole_part(card, 0, 0),
+        Located::Refused => base::whole_part(card, 0, 0),
     }
 }

@@ -1,5 +1,6 @@
 -- What each function of an index answers and leaves of the list, by the tests in their order.
--- Read before: specs/Index.antt, Places. Exports: `Builds`, `build-…`; `Extends`, `extend-…`; `whole-…`, `measure-…`, `part-…`.
+-- Read before: specs/Index.antt, Places. Exports: `Builds`, `buildOk-…`, `build-…`; `Extends`, `extendOk-…`, `extend-…`; `whole-…`, `readOk-…`, `measure-…`;
+-- `Measured`, `Told`, `told` (what an answer of `measure` tells); `part-…` (what is returned).
 use Prim.Native.Nat.{ℕ, _+_, _-_, _≤_, _<_, min}
 use mathlib.Core.Path.{_≡_, refl, sym, ap, _∙_, subst}
 use mathlib.Core.Bool.{true, false, and-false}
@@ -11,9 +12,9 @@ use lib.Dec.{leb}
 use borrow.Author.Tests.{lt-leb, le-leb, leb-true, lt-ltb, le-ltb, ltb-true, eq-eqb, ne-eqb, eqb-true}
 use denote.Ref.{RefT, now}
 use Rattle.base.specs.Choice.{allOf}
-use Rattle.base.specs.Lent.{PartOf, CutOf}
+use Rattle.base.specs.Lent.{PartOf, WholePart}
 use Rattle.base.proofs.Cases.{allOf-facts, allOf-accepted, leb-same, ifElse-ind}
-use Rattle.base.proofs.Lending.{cut-part}
+use Rattle.base.proofs.Lending.{wholePart-is}
 use Rattle.store_records.specs.Little.{le16}
 use Rattle.store_records.specs.Body.{count, nextPlace, place}
 use Rattle.store_index.specs.Index.{placesTo, recordFileOk, buildOk, build, buildInto, extendOk, extend, extendInto, placeFor, readOk, measure, IndexedPart}
@@ -38,11 +39,11 @@ module _ (k : ℕ) (xs ps : List ℕ) where
   unfolding build buildInto
   build-refused e = (simp e, simp e)
 
-  pub build-unsound : recordFileOk k xs ≡ false → Builds Refused ps
-  build-unsound e = build-refused (unfold buildOk allOf in simp e)
+  pub build-refused-body : recordFileOk k xs ≡ false → Builds Refused ps
+  build-refused-body e = build-refused (unfold buildOk allOf in simp e)
 
-  pub build-short : length ps < count xs → Builds Refused ps
-  build-short h = build-refused (unfold buildOk allOf in simp (lt-leb _ _ h, and-false))
+  pub build-refused-list : length ps < count xs → Builds Refused ps
+  build-refused-list h = build-refused (unfold buildOk allOf in simp (lt-leb _ _ h, and-false))
 
   pub build-done : (n : ℕ) (l : List ℕ) → recordFileOk k xs ≡ true → n ≡ count xs → n ≤ length ps → l ≡ sets ps 0 (placesTo xs n) → Builds (Counted n) l
   unfolding build buildInto
@@ -67,14 +68,14 @@ module _ (k : ℕ) (xs ps : List ℕ) (n : ℕ) where
   unfolding extend extendInto
   extend-refused e = (simp e, simp e)
 
-  pub extend-unsound : recordFileOk k xs ≡ false → Extends Refused ps
-  extend-unsound e = extend-refused (unfold extendOk allOf in simp e)
+  pub extend-refused-body : recordFileOk k xs ≡ false → Extends Refused ps
+  extend-refused-body e = extend-refused (unfold extendOk allOf in simp e)
 
-  pub extend-count : (n + 1 ≡ count xs → ⊥) → Extends Refused ps
-  extend-count h = extend-refused (unfold extendOk allOf in simp (ne-eqb _ _ h, and-false))
+  pub extend-refused-count : (n + 1 ≡ count xs → ⊥) → Extends Refused ps
+  extend-refused-count h = extend-refused (unfold extendOk allOf in simp (ne-eqb _ _ h, and-false))
 
-  pub extend-short : length ps ≤ n → Extends Refused ps
-  extend-short h = extend-refused (unfold extendOk allOf in simp (le-ltb _ _ h, and-false))
+  pub extend-refused-list : length ps ≤ n → Extends Refused ps
+  extend-refused-list h = extend-refused (unfold extendOk allOf in simp (le-ltb _ _ h, and-false))
 
   pub extend-done : recordFileOk k xs ≡ true → n + 1 ≡ count xs → n < length ps → Extends (Counted (n + 1)) (set ps n (place xs n))
   unfolding extend extendInto
@@ -154,12 +155,12 @@ module _ (body : RefT (List ℕ)) (ps : List ℕ) (n : ℕ) (r : RefT (List ℕ)
   returned : (a : Indexed) → measure (now body) ps n ≡ a → IndexedPart a ps n body r → Returned
   returned a e p = subst (λ (x : Indexed). IndexedPart x ps n body r) (sym e) p
 
-  pub part-counted : (p l : ℕ) → measure (now body) ps n ≡ Counted l → p ≡ getD ps (n - 1) 0 → CutOf body (p + 2) l r → Returned
+  pub part-counted : (p l : ℕ) → measure (now body) ps n ≡ Counted l → p ≡ getD ps (n - 1) 0 → WholePart body (p + 2) l r → Returned
   unfolding placeFor
   part-counted p l e q c =
       let t = told (now body) ps n (Counted l) e in
       let w : p + 2 + l ≤ length (now body) = omega (arith, t .within, t .says) in
-      returned (Counted l) e (subst (λ (x : ℕ). PartOf body (x + 2) l r) q (cut-part body (p + 2) l r w c))
+      returned (Counted l) e (subst (λ (x : ℕ). PartOf body (x + 2) l r) q (wholePart-is body (p + 2) l r w c))
 
-  pub part-refused : measure (now body) ps n ≡ Refused → CutOf body 0 0 r → Returned
-  part-refused e c = returned Refused e (cut-part body 0 0 r (omega arith) c)
+  pub part-refused : measure (now body) ps n ≡ Refused → WholePart body 0 0 r → Returned
+  part-refused e c = returned Refused e (wholePart-is body 0 0 r (omega arith) c)

@@ -2,17 +2,18 @@
 -- Read before: specs/Index.antt. Exports: `length-places`, `getD-places`, `places-turn` (the list), `recordFileOk-…` (the test by its two parts,
 -- and what it tells), `Stands`, `stands`, `place-read` (a place is within the body, and small), `ByRow`, `recordFileOk-row`,
 -- `row-recordFileOk` (the test by the rule table's rows).
-use Prim.Native.Nat.{ℕ, zero, suc, _+_, _-_, _≤_, _<_, min}
+use Prim.Native.Nat.{ℕ, suc, _+_, _-_, _≤_, _<_, min}
 use mathlib.Core.Path.{_≡_, refl, sym, ap, ap₂, _∙_}
 use mathlib.Core.Bool.{true, false, and-true}
 use mathlib.Core.List.{List, [], _∷_, _++_, List·Memᴰ}
 use native.Mathlib.Omega.{arith}
 use native.Mathlib.Numerals.{add-one}
-use lib.ListN.{length, getD, set, length-append, List·getD-append}
-use lib.Seq.{sets, getD-append-add}
+use lib.ListN.{length, getD, set}
+use lib.Seq.{sets}
 use borrow.Author.Tests.{not-true, lt-leb, eqb-true}
 use Rattle.base.specs.Choice.{allOf}
 use Rattle.base.proofs.Cases.{allOf-facts}
+use Rattle.base.proofs.Lists.{grown-length, grown-at}
 use Rattle.base.proofs.Runs.{sets-snoc}
 use Rattle.store_records.specs.Body.{count, place, bodyOk}
 use Rattle.store_records.proofs.Bodies.{bodyOk-place, bodyOk-facts}
@@ -26,30 +27,20 @@ use Rattle.store_index.specs.Index.{placesTo, recordFileOk}
 
 -- ---- the list
 
-pub length-places : (xs : List ℕ) (n : ℕ) → length (placesTo xs n) ≡ n
-unfolding placesTo
-length-places xs zero = refl
-length-places xs (suc n) = length-append (placesTo xs n) (place xs n ∷ []) ∙ (let e = length-places xs n in omega arith)
+module _ (xs : List ℕ) where
+  start : placesTo xs 0 ≡ []
+  unfolding placesTo
+  start = refl
 
--- a place stays where it is when the list goes on
-places-grow : (xs : List ℕ) (i k : ℕ) → getD (placesTo xs (suc (i + k))) i 0 ≡ place xs i
-unfolding placesTo
-places-grow xs i zero =
-    let z : i + 0 ≡ i = omega arith in
-    let e : i ≡ length (placesTo xs i) + 0 = (let l = length-places xs i in omega arith) in
-    ap (λ (m : ℕ). getD (placesTo xs m ++ (place xs m ∷ [])) i 0) z
-    ∙ ap (λ (j : ℕ). getD (placesTo xs i ++ (place xs i ∷ [])) j 0) e
-    ∙ getD-append-add (placesTo xs i) (place xs i ∷ []) 0 0
-places-grow xs i (suc k) =
-    let z : i + suc k ≡ suc (i + k) = omega arith in
-    ap (λ (m : ℕ). getD (placesTo xs m ++ (place xs m ∷ [])) i 0) z
-    ∙ List·getD-append (placesTo xs (suc (i + k))) (place xs (suc (i + k)) ∷ []) 0 i (let l = length-places xs (suc (i + k)) in omega arith)
-    ∙ places-grow xs i k
+  next : (n : ℕ) → placesTo xs (suc n) ≡ placesTo xs n ++ (place xs n ∷ [])
+  unfolding placesTo
+  next n = refl
 
-pub getD-places : (xs : List ℕ) (n i : ℕ) → i < n → getD (placesTo xs n) i 0 ≡ place xs i
-getD-places xs n i h =
-    let e : n ≡ suc (i + (n - suc i)) = omega arith in
-    ap (λ (m : ℕ). getD (placesTo xs m) i 0) e ∙ places-grow xs i (n - suc i)
+  pub length-places : (n : ℕ) → length (placesTo xs n) ≡ n
+  length-places = grown-length (place xs) (placesTo xs) start next
+
+  pub getD-places : (n i : ℕ) → i < n → getD (placesTo xs n) i 0 ≡ place xs i
+  getD-places n i h = grown-at (place xs) (placesTo xs) start next 0 n i h
 
 -- one place more behind those written
 pub places-turn : (xs l d : List ℕ) (i at : ℕ) → d ≡ sets l 0 (placesTo xs i) → at ≡ place xs i → set d i at ≡ sets l 0 (placesTo xs (i + 1))

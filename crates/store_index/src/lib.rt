@@ -113,7 +113,7 @@ pub fn read<'a>(body: &'a [u8], places: &[u32], number: usize) -> &'a [u8]
     ensures { λ r. ⌜ IndexedPart (measure (now (body .entry)) (now (places .entry)) number) (now (places .entry)) number (body .entry) r ⌝ }
 {
     match measure(body, places, number) {
-        Indexed::Counted(n) => base::cut(body, places[number - 1] as usize + 2, n),
-        Indexed::Refused => base::cut(body, 0, 0),
+        Indexed::Counted(n) => base::whole_part(body, places[number - 1] as usize + 2, n),
+        Indexed::Refused => base::whole_part(body, 0, 0),
     }
 }

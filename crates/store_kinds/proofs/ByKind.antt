@@ -1,6 +1,6 @@
 -- What a body must be by its kind: one of the kind's rule, or one of biometrics.
--- Read before: specs/Rules.antt, Table. Exports: `kindOk-rule`, `kindOk-refused`, `kindOk-biometrics`; `kindOk-ruled` (the rule of a kind that is
--- no biometrics file's); `place-small` (in a body of a rule, records stand below 2^18).
+-- Read before: specs/Rules.antt, Table. Exports: `kindOk-rule`, `kindOk-refused`, `kindOk-biometrics`; `OfRule`, `kindOk-ruled` (the rule of
+-- a kind that is no biometrics file's); `place-small` (in a body of a rule, records stand below 2^18).
 use Prim.Native.Nat.{ℕ, zero, suc, _+_, _*_, _≤_, _<_}
 use mathlib.Core.Path.{_≡_, refl, sym, ap, _∙_}
 use mathlib.Core.Bool.{true, false, _&&_}

@@ -8,11 +8,11 @@ use mathlib.Core.List.{List, [], _∷_, _++_}
 use native.Mathlib.Omega.{arith}
 use native.Mathlib.Numerals.{add-one}
 use native.Mathlib.Nat.{add-zero, add-suc, add-sub-of-le}
-use lib.ListN.{length, getD, length-append, List·getD-append, List·getD-eq-default}
-use lib.Seq.{getD-append-add}
+use lib.ListN.{length, getD, List·getD-eq-default}
 use lib.Dec.{leb}
 use borrow.Author.Tests.{lt-ltb, le-ltb, lt-leb, le-leb, leb-true}
 use Rattle.base.specs.Choice.{allOf}
+use Rattle.base.proofs.Lists.{grown-length, grown-at}
 use Rattle.base.proofs.Parts.{part-past}
 use Rattle.base.proofs.Cases.{by-cases, allOf-facts, allOf-accepted}
 use Rattle.store_records.specs.Little.{le16}
@@ -142,35 +142,29 @@ module _ (L M : ℕ) (xs : List ℕ) where
 
 -- ---- the records by number
 
-pub firsts-length : (xs : List ℕ) (n : ℕ) → length (firsts xs n) ≡ n
-unfolding firsts
-firsts-length xs zero = refl
-firsts-length xs (suc n) = length-append (firsts xs n) (recordAt xs (place xs n) ∷ []) ∙ (let e = firsts-length xs n in omega arith)
+module _ (xs : List ℕ) where
+  abbrev record-behind : ℕ → List ℕ
+  record-behind n = recordAt xs (place xs n)
 
-firsts-grow : (xs : List ℕ) (i k : ℕ) → getD (firsts xs (suc (i + k))) i [] ≡ recordAt xs (place xs i)
-unfolding firsts
-firsts-grow xs i zero =
-    let z : i + 0 ≡ i = omega arith in
-    let e : i ≡ length (firsts xs i) + 0 = (let l = firsts-length xs i in omega arith) in
-    ap (λ (m : ℕ). getD (firsts xs m ++ (recordAt xs (place xs m) ∷ [])) i []) z
-    ∙ ap (λ (j : ℕ). getD (firsts xs i ++ (recordAt xs (place xs i) ∷ [])) j []) e
-    ∙ getD-append-add (firsts xs i) (recordAt xs (place xs i) ∷ []) 0 []
-firsts-grow xs i (suc k) =
-    let z : i + suc k ≡ suc (i + k) = omega arith in
-    ap (λ (m : ℕ). getD (firsts xs m ++ (recordAt xs (place xs m) ∷ [])) i []) z
-    ∙ List·getD-append (firsts xs (suc (i + k))) (recordAt xs (place xs (suc (i + k))) ∷ []) [] i (let l = firsts-length xs (suc (i + k)) in omega arith)
-    ∙ firsts-grow xs i k
+  next : (n : ℕ) → firsts xs (suc n) ≡ firsts xs n ++ (record-behind n ∷ [])
+  unfolding firsts
+  next n = refl
 
-pub records-length : (xs : List ℕ) → length (records xs) ≡ count xs
-unfolding records
-records-length xs = firsts-length xs (count xs)
+  start : firsts xs 0 ≡ []
+  unfolding firsts
+  start = refl
 
--- the record behind the first i stands at their end
-pub records-at : (xs : List ℕ) (i : ℕ) → i < count xs → getD (records xs) i [] ≡ recordAt xs (place xs i)
-unfolding records
-records-at xs i h =
-    let e : count xs ≡ suc (i + (count xs - suc i)) = omega arith in
-    ap (λ (m : ℕ). getD (firsts xs m) i []) e ∙ firsts-grow xs i (count xs - suc i)
+  pub firsts-length : (n : ℕ) → length (firsts xs n) ≡ n
+  firsts-length = grown-length record-behind (firsts xs) start next
+
+  pub records-length : length (records xs) ≡ count xs
+  unfolding records
+  records-length = firsts-length (count xs)
+
+  -- the record behind the first i stands at their end
+  pub records-at : (i : ℕ) → i < count xs → getD (records xs) i [] ≡ recordAt xs (place xs i)
+  unfolding records
+  records-at i h = grown-at record-behind (firsts xs) start next [] (count xs) i h
 
 -- past the end there is no record, and a walk stays
 pub recordAt-past : (xs : List ℕ) (p : ℕ) → length xs ≤ p → recordAt xs p ≡ []

@@ -1,5 +1,5 @@
 -- Little-endian numbers: past the end, in lists that agree, in a part, and written and read back.
--- Read before: specs/Little.antt. Exports: `le16-…` and `le32-…` (-past, -agree, -part, -bytes, -stored, -set), `length-bytes16`,
+-- Read before: specs/Little.antt. Exports: `le16-…` and `le32-…` (-small, -past, -agree, -part, -bytes, -stored, -set), `length-bytes16`,
 -- `length-bytes32`.
 use Prim.Native.Nat.{ℕ, _+_, _*_, _/_, _%_, _≤_, _<_}
 use mathlib.Core.Path.{_≡_, refl, sym, ap, ap₂, _∙_}
@@ -8,10 +8,15 @@ use native.Mathlib.Omega.{arith}
 use native.Mathlib.Nat.{add-zero, div-div-eq-div-mul}
 use lib.ListN.{length, getD, set, length-set, List·getD-eq-default}
 use lib.Seq.{sets, getD-set-same, getD-set-other}
-use Rattle.base.specs.Bytes.{part}
+use Rattle.base.specs.Bytes.{part, AllBytes}
 use Rattle.base.proofs.Parts.{Agree, getD-part}
 use Rattle.base.proofs.Runs.{part-sets}
 use Rattle.store_records.specs.Little.{le16, le32, bytes16, bytes32}
+
+-- two bytes are below 65,536
+pub le16-small : (xs : List ℕ) (i : ℕ) → AllBytes xs → le16 xs i < 65536
+unfolding le16 AllBytes
+le16-small xs i b = let l = b i in let h = b (i + 1) in omega arith
 
 -- ---- past the end
 

@@ -40,7 +40,7 @@ fn torn(s: &[u8]) -> Turn {
     }
 }
 
-// FNV-1a in 32 bits: a hash, and that of one byte more.
+// FNV-1a in 32 bits: the hash h, continued by the byte b.
 fn hash_byte(h: u64, b: usize) -> u64 {
     (h ^ (b as u64)) % 4294967296 * 16777619 % 4294967296
 }
@@ -272,7 +272,7 @@ fn read64(s: &[u8]) -> usize {
     read32(s, 0) % 4294967296 + read32(s, 4) % 4294967296 * 4294967296
 }
 
-// A list of places.
+// Room for a list: as many entries as the comparison makes at most.
 fn no_places() -> [u32; 512]
     ensures { λ r. ⌜ 512 ≡ length r ⌝ }
 {
@@ -288,7 +288,7 @@ fn read_places(s: &[u8], places: &mut [u32]) {
     }
 }
 
-// A hash, and that of the four bytes of a place more.
+// The hash h, continued by the four bytes of the place p.
 fn hash_place(h: u64, p: usize) -> u64 {
     let low = hash_byte(hash_byte(h, p % 256), p / 256 % 256);
     hash_byte(hash_byte(low, p / 65536 % 256), p / 16777216 % 256)

@@ -80,8 +80,8 @@ extern "C" {
         n: usize,
     ) -> u64;
 
-    /// The record of a number, by its place in a list. The result is refusal * 2^32 + length of
-    /// the record.
+    /// The record of a number, by its place in a list; `places_len` is the number of places that it
+    /// holds. The result is refusal * 2^32 + length of the record.
     pub fn malquindo_index_read(
         body: *const u8,
         body_len: usize,
@@ -198,7 +198,7 @@ pub fn index_extend(kind: u16, body: &[u8], places: &mut [u32], n: usize) -> u64
 }
 
 /// `malquindo_index_read` on slices of any length.
-// It takes about as long as a call, so it is not to cost a second one.
+// Inlined, since a read takes about as long as a call.
 #[inline]
 pub fn index_read(body: &[u8], places: &[u32], number: usize) -> u64 {
     // SAFETY: pointers and lengths are those of slices, which are never null and are aligned for

@@ -65,7 +65,7 @@ impl Index {
     /// Adds the place of the record that was appended to the body.
     ///
     /// Refused where [`build`](Self::build) is, and where the body has not one record more than
-    /// the index has places. The index then stays as it is.
+    /// the index has places: after two appends, build anew. The index then stays as it is.
     pub fn extend(&mut self, body: &[u8]) -> Result<(), Refusal> {
         let n = self.places.len();
         self.places.push(0);
@@ -92,13 +92,20 @@ impl Index {
         Ok(&body[start..start + length as usize])
     }
 
-    /// How many places the index has: as many as the body has records.
+    /// How many places the index has: as many as the body had records when the index was last built
+    /// or extended.
     pub fn len(&self) -> usize {
         self.places.len()
     }
 
+    /// Whether it has no place.
     pub fn is_empty(&self) -> bool {
         self.places.is_empty()
+    }
+
+    /// The kind of the file that it is of.
+    pub fn kind(&self) -> u16 {
+        self.kind
     }
 
     /// The place of each record, in their order.
@@ -131,6 +138,7 @@ mod tests {
         let index = Index::build(ENTRY, &THREE).unwrap();
         assert_eq!(index.places(), [2, 5, 9]);
         assert_eq!((index.len(), index.is_empty()), (3, false));
+        assert_eq!(index.kind(), ENTRY);
         assert!(Index::build(ENTRY, &NONE).unwrap().is_empty());
     }
 

@@ -11,38 +11,38 @@ locate-requires c κs = search needs
 enum-known-s : tie.Need-enum-known-s
 enum-known-s c = search needs
 
-cut-requires : tie.Need-cut-requires
-cut-requires c κs = search needs
+whole-part-requires : tie.Need-whole-part-requires
+whole-part-requires c κs = search needs
 
 enum-known-s-2 : tie.Need-enum-known-s-2
 enum-known-s-2 c = search needs
 
-cut-requires-2 : tie.Need-cut-requires-2
-cut-requires-2 c κs = search needs
+whole-part-requires-2 : tie.Need-whole-part-requires-2
+whole-part-requires-2 c κs = search needs
 
 enum-told : tie.Need-enum-told
 enum-told c = search needs
 
-cut-requires-3 : tie.Need-cut-requires-3
-cut-requires-3 c κs = search needs
+whole-part-requires-3 : tie.Need-whole-part-requires-3
+whole-part-requires-3 c κs = search needs
 
 enum-told-2 : tie.Need-enum-told-2
 enum-told-2 c = search needs
 
-cut-requires-4 : tie.Need-cut-requires-4
-cut-requires-4 c κs = search needs
+whole-part-requires-4 : tie.Need-whole-part-requires-4
+whole-part-requires-4 c κs = search needs
 
 returns : tie.Need-returns
-returns c = card-part _ _ _ _ _ (sym (c .before .before .before .before .locate .ensures) ∙ c .before .before .s .given .1) (c .cut .ensures)
+returns c = card-part _ _ _ _ _ (sym (c .before .before .before .before .locate .ensures) ∙ c .before .before .s .given .1) (c .whole-part .ensures)
 
 returns-2 : tie.Need-returns-2
-returns-2 c = desk-part _ _ _ _ _ (sym (c .before .before .before .before .locate .ensures) ∙ c .before .before .s2 .given .1) (c .cut2 .ensures)
+returns-2 c = desk-part _ _ _ _ _ (sym (c .before .before .before .before .locate .ensures) ∙ c .before .before .s2 .given .1) (c .whole-part2 .ensures)
 
 returns-3 : tie.Need-returns-3
-returns-3 c = missing-part _ _ _ _ (sym (c .before .before .before .locate .ensures) ∙ c .before .enum-told .given .1) (c .cut3 .ensures)
+returns-3 c = missing-part _ _ _ _ (sym (c .before .before .before .locate .ensures) ∙ c .before .enum-told .given .1) (c .whole-part3 .ensures)
 
 returns-4 : tie.Need-returns-4
-returns-4 c = refused-part _ _ _ _ (sym (c .before .before .before .locate .ensures) ∙ c .before .enum-told2 .given .1) (c .cut4 .ensures)
+returns-4 c = refused-part _ _ _ _ (sym (c .before .before .before .locate .ensures) ∙ c .before .enum-told2 .given .1) (c .whole-part4 .ensures)
 
 pub named-certificate-spec : {M : Type 1} → statement M
 named-certificate-spec =
@@ -50,13 +50,13 @@ named-certificate-spec =
     (tie.spec
     locate-requires
     enum-known-s
-    cut-requires
+    whole-part-requires
     enum-known-s-2
-    cut-requires-2
+    whole-part-requires-2
     enum-told
-    cut-requires-3
+    whole-part-requires-3
     enum-told-2
-    cut-requires-4
+    whole-part-requires-4
     returns
     returns-2
     returns-3

@@ -3,7 +3,7 @@ use native.Mathlib.Omega.{arith}
 use denote.Ref.{now}
 use Rattle.base.proofs.Cases.{flag-refused, flag-accepted}
 use Rattle.store_index.proofs.Places.{stands}
-use Rattle.store_index.proofs.Answering.{build-unsound, build-short, build-done}
+use Rattle.store_index.proofs.Answering.{build-refused-body, build-refused-list, build-done}
 use borrow.Author.Needs.{needs}
 use Rattle.store_index.proofs.build.Statement.{statement}
 use Rattle.store_index.proofs.build.Tie as tie
@@ -12,13 +12,13 @@ record-file-ok-requires : tie.Need-record-file-ok-requires
 record-file-ok-requires c κs = search needs
 
 returns : tie.Need-returns
-returns c = build-unsound _ _ _ (flag-refused (c .before .record-file-ok .ensures) (c .if1 .taken))
+returns c = build-refused-body _ _ _ (flag-refused (c .before .record-file-ok .ensures) (c .if1 .taken))
 
 count-requires : tie.Need-count-requires
 count-requires c κs = search needs
 
 returns-2 : tie.Need-returns-2
-returns-2 c = build-short _ _ _ (omega arith)
+returns-2 c = build-refused-list _ _ _ (omega arith)
 
 fill-requires : tie.Need-fill-requires
 fill-requires c κs =

@@ -3,7 +3,7 @@ use native.Mathlib.Omega.{arith}
 use denote.Ref.{now}
 use Rattle.base.proofs.Cases.{flag-refused, flag-accepted}
 use Rattle.store_index.proofs.Places.{place-read}
-use Rattle.store_index.proofs.Answering.{extend-unsound, extend-count, extend-short, extend-by}
+use Rattle.store_index.proofs.Answering.{extend-refused-body, extend-refused-count, extend-refused-list, extend-by}
 use borrow.Author.Needs.{needs}
 use Rattle.store_index.proofs.extend.Statement.{statement}
 use Rattle.store_index.proofs.extend.Tie as tie
@@ -12,22 +12,22 @@ record-file-ok-requires : tie.Need-record-file-ok-requires
 record-file-ok-requires c κs = search needs
 
 returns : tie.Need-returns
-returns c = extend-unsound _ _ _ _ (flag-refused (c .before .record-file-ok .ensures) (c .if1 .taken))
+returns c = extend-refused-body _ _ _ _ (flag-refused (c .before .record-file-ok .ensures) (c .if1 .taken))
 
 count-requires : tie.Need-count-requires
 count-requires c κs = search needs
 
 returns-2 : tie.Need-returns-2
-returns-2 c = extend-count _ _ _ _ (λ e. omega arith)
+returns-2 c = extend-refused-count _ _ _ _ (λ e. omega arith)
 
 add-if3 : tie.Need-add-if3
 add-if3 c = search needs
 
 returns-3 : tie.Need-returns-3
-returns-3 c = extend-count _ _ _ _ (λ e. omega arith)
+returns-3 c = extend-refused-count _ _ _ _ (λ e. omega arith)
 
 returns-4 : tie.Need-returns-4
-returns-4 c = extend-short _ _ _ _ (omega arith)
+returns-4 c = extend-refused-list _ _ _ _ (omega arith)
 
 place-requires : tie.Need-place-requires
 place-requires c κs = search needs
@@ -36,7 +36,7 @@ cast-places : tie.Need-cast-places
 cast-places c =
     let b = c .before .before .before .before .before in
     let a = b .before .before .before .before .args in
-    omega (arith, place-read (a .kind) (now (a .body)) (a .n) (c .place .result) (flag-accepted (b .before .record-file-ok .ensures) (b .if1 .left)) (omega arith) (c .place .ensures))
+    omega (arith, place-read (a .kind) (now (a .body)) _ (c .place .result) (flag-accepted (b .before .record-file-ok .ensures) (b .if1 .left)) (omega arith) (c .place .ensures))
 
 mul-places : tie.Need-mul-places
 mul-places c = search needs

@@ -14,35 +14,35 @@ measure-requires c κs = search needs
 enum-known-n : tie.Need-enum-known-n
 enum-known-n c = search needs
 
-sub-cut : tie.Need-sub-cut
-sub-cut c = omega (arith, told _ _ _ (Counted _) (sym (c .before .before .before .measure .ensures) ∙ c .before .n .given .1) .first)
+sub-whole-part : tie.Need-sub-whole-part
+sub-whole-part c = omega (arith, told _ _ _ (Counted _) (sym (c .before .before .before .measure .ensures) ∙ c .before .n .given .1) .first)
 
-mul-cut : tie.Need-mul-cut
-mul-cut c = omega (arith, told _ _ _ (Counted _) (sym (c .before .before .before .measure .ensures) ∙ c .before .n .given .1) .last)
+mul-whole-part : tie.Need-mul-whole-part
+mul-whole-part c = omega (arith, told _ _ _ (Counted _) (sym (c .before .before .before .measure .ensures) ∙ c .before .n .given .1) .last)
 
-shared-slice-read-cut : tie.Need-shared-slice-read-cut
-shared-slice-read-cut c = let t = told _ _ _ (Counted _) (sym (c .before .before .before .before .measure .ensures) ∙ c .before .before .n .given .1) in omega (arith, t .first, t .last)
+shared-slice-read-whole-part : tie.Need-shared-slice-read-whole-part
+shared-slice-read-whole-part c = let t = told _ _ _ (Counted _) (sym (c .before .before .before .before .measure .ensures) ∙ c .before .before .n .given .1) in omega (arith, t .first, t .last)
 
-cast-cut : tie.Need-cast-cut
-cast-cut c = omega (arith, c .shared-slice-known3 .given (c .before .before .before .before .before .before .before .args .number - 1))
+cast-whole-part : tie.Need-cast-whole-part
+cast-whole-part c = omega (arith, c .shared-slice-known3 .given (c .before .before .before .before .before .before .before .args .number - 1))
 
-add-cut : tie.Need-add-cut
-add-cut c = omega (arith, c .shared-slice-known3 .given (c .before .before .before .before .before .before .before .args .number - 1))
+add-whole-part : tie.Need-add-whole-part
+add-whole-part c = omega (arith, c .shared-slice-known3 .given (c .before .before .before .before .before .before .before .args .number - 1))
 
-cut-requires : tie.Need-cut-requires
-cut-requires c κs = search needs
+whole-part-requires : tie.Need-whole-part-requires
+whole-part-requires c κs = search needs
 
 enum-told : tie.Need-enum-told
 enum-told c = search needs
 
-cut-requires-2 : tie.Need-cut-requires-2
-cut-requires-2 c κs = search needs
+whole-part-requires-2 : tie.Need-whole-part-requires-2
+whole-part-requires-2 c κs = search needs
 
 returns : tie.Need-returns
-returns c = part-counted _ _ _ _ _ _ (sym (c .before .before .before .before .before .measure .ensures) ∙ c .before .before .before .n .given .1) refl (c .cut .ensures)
+returns c = part-counted _ _ _ _ _ _ (sym (c .before .before .before .before .before .measure .ensures) ∙ c .before .before .before .n .given .1) refl (c .whole-part .ensures)
 
 returns-2 : tie.Need-returns-2
-returns-2 c = part-refused _ _ _ _ (sym (c .before .before .before .measure .ensures) ∙ c .before .enum-told .given .1) (c .cut2 .ensures)
+returns-2 c = part-refused _ _ _ _ (sym (c .before .before .before .measure .ensures) ∙ c .before .enum-told .given .1) (c .whole-part2 .ensures)
 
 pub read-spec : {M : Type 1} → statement M
 read-spec =
@@ -50,13 +50,13 @@ read-spec =
     (tie.spec
     measure-requires
     enum-known-n
-    sub-cut
-    mul-cut
-    shared-slice-read-cut
-    cast-cut
-    add-cut
-    cut-requires
+    sub-whole-part
+    mul-whole-part
+    shared-slice-read-whole-part
+    cast-whole-part
+    add-whole-part
+    whole-part-requires
     enum-told
-    cut-requires-2
+    whole-part-requires-2
     returns
     returns-2)

@@ -1,11 +1,11 @@
--- `base::cut` meets its contract: what is cut out is the slice from `a` on, or the empty one at the start.
+-- `base::whole_part` meets its contract: it is the slice from `a` on, or the empty one at the start.
 use mathlib.Core.Path.{refl}
 use native.Mathlib.Omega.{arith}
 use Rattle.base.proofs.Parts.{part-mid}
-use Rattle.base.proofs.Lending.{cut-whole, cut-none}
+use Rattle.base.proofs.Lending.{wholePart-there, wholePart-lacking}
 use borrow.Author.Needs.{needs}
-use Rattle.base.proofs.cut.Statement.{statement}
-use Rattle.base.proofs.cut.Tie as tie
+use Rattle.base.proofs.whole_part.Statement.{statement}
+use Rattle.base.proofs.whole_part.Tie as tie
 
 sub-result : tie.Need-sub-result
 sub-result c = search needs
@@ -17,7 +17,7 @@ part-result-end : tie.Need-part-result-end
 part-result-end c = search needs
 
 returns : tie.Need-returns
-returns c = cut-none _ _ _ _ (omega arith) (record { block = refl; offset = omega arith; bytes = refl })
+returns c = wholePart-lacking _ _ _ _ (omega arith) (record { block = refl; offset = omega arith; bytes = refl })
 
 sub-if2 : tie.Need-sub-if2
 sub-if2 c = search needs
@@ -32,7 +32,7 @@ part-result-end-2 : tie.Need-part-result-end-2
 part-result-end-2 c = search needs
 
 returns-2 : tie.Need-returns-2
-returns-2 c = cut-none _ _ _ _ (omega arith) (record { block = refl; offset = omega arith; bytes = refl })
+returns-2 c = wholePart-lacking _ _ _ _ (omega arith) (record { block = refl; offset = omega arith; bytes = refl })
 
 add-e : tie.Need-add-e
 add-e c = search needs
@@ -47,10 +47,10 @@ part-result-end-3 : tie.Need-part-result-end-3
 part-result-end-3 c = search needs
 
 returns-3 : tie.Need-returns-3
-returns-3 c = cut-whole _ _ _ _ (omega arith) (record { block = refl; offset = omega arith; bytes = part-mid _ (c .before .before .before .args .a) (c .before .before .before .args .n) })
+returns-3 c = wholePart-there _ _ _ _ (omega arith) (record { block = refl; offset = omega arith; bytes = part-mid _ (c .before .before .before .args .a) (c .before .before .before .args .n) })
 
-pub cut-spec : {M : Type 1} → statement M
-cut-spec =
+pub whole-part-spec : {M : Type 1} → statement M
+whole-part-spec =
     tie.close
     (tie.spec
     sub-result
