@@ -8,14 +8,15 @@
  * library it needs memcpy and memset.
  *
  * What the caller must see to. Nothing checks these three:
- *   - each pointer is to as many elements as its length says (bytes, or of an index 32-bit places), aligned for them, valid
- *     for reading and, where it is not const, for writing;
+ *   - each pointer is to as many elements as its length says (bytes, or of a list of places 32-bit numbers), aligned for
+ *     them, valid for reading and, where it is not const, for writing;
  *   - no buffer that is written overlaps another buffer of the call;
  *   - no pointer is null, even where the length is 0.
  * Beyond that every function takes any bytes, lengths and numbers, and always returns.
  *
  * Results. A result is one number of 64 bits. malquindo_file refuses nothing, and its result stands with it. Of the other
- * functions the upper 32 bits are the refusal, 0 where the call is not refused:
+ * functions the upper 32 bits are the refusal, 0 where the call is not refused. Of malquindo_stamp_read alone 1 to 3 in the
+ * upper 32 bits are no refusals: they are the reason why the record is no stamp.
  *    1  command        the response buffer is shorter than MALQUINDO_RESPONSE_LEN
  *    2  command, move  the image is not well formed
  *    3  open           the rights are not MALQUINDO_RIGHTS_LEN bytes
@@ -27,6 +28,7 @@
  *   11  move           a kind of the old image is not in the list
  *   12  move           a room is too small for its content
  *   13  move           the target is shorter than the new image
+ *   15  stamp          the list has fewer than MALQUINDO_STAMP_PLACES entries
  * What the lower 32 bits mean stands with each function. On a refusal they are 0.
  */
 #ifndef MALQUINDO_H
@@ -44,6 +46,8 @@ extern "C" {
 #define MALQUINDO_RESPONSE_LEN 2050 /* the shortest response buffer: 2,048 bytes of data, SW1, SW2 */
 #define MALQUINDO_IMAGE_LEN 262144  /* the longest card image */
 #define MALQUINDO_RECORDS 254       /* the most records of a file */
+#define MALQUINDO_STAMP_LEN 391     /* the longest stamp */
+#define MALQUINDO_STAMP_PLACES 26   /* the places of a stamp's fields: two numbers for each of 13 */
 
 /* How many bytes a session has: 25.
  *
@@ -159,9 +163,44 @@ uint64_t malquindo_index_extend(uint16_t kind, const uint8_t *body, size_t body_
 uint64_t malquindo_index_read(const uint8_t *body, size_t body_len, const uint32_t *places, size_t places_len,
                               size_t number);
 
+/* Reads a record as a stamp: a travel record by Table 11 of ICAO's LDS2 report, as EntryRecords and ExitRecords hold them.
+ *
+ * 0: the record is a stamp. The first MALQUINDO_STAMP_PLACES entries of the list are then two numbers for each field, in the
+ * order of the fields below: where its value begins in the record, and how many bytes it has. Both are 0 for an optional field
+ * that is absent. Entries behind them stay as they came.
+ *
+ * Else the upper 32 bits are the reason of the first fault, one of MALQUINDO_STAMP_TAG, MALQUINDO_STAMP_LENGTH and
+ * MALQUINDO_STAMP_CONTENT, and the lower 32 bits are its offset in the record: that of the first byte of the object at fault
+ * (of its tag), or of the place where a missing one should stand. These reasons are no refusals. The list then stays as it
+ * came.
+ *
+ * Refusal 15, before all: the list has fewer than MALQUINDO_STAMP_PLACES entries. The list then stays as it came. The record
+ * is only read; it may have any length. */
+uint64_t malquindo_stamp_read(const uint8_t *record, size_t record_len, uint32_t *places, size_t places_len);
+
+/* The fields of a stamp, in the order of Table 11. */
+#define MALQUINDO_STAMP_STATE_COPY 0  /* 5F44, before 73: the same 3 letters as the State inside */
+#define MALQUINDO_STAMP_STATE 1       /* 5F44: 3 letters */
+#define MALQUINDO_STAMP_VISAS 2       /* 5F4C, optional: approvals, refusals and revocations of visas, 1 to 50 characters */
+#define MALQUINDO_STAMP_DATE 3        /* 5F45: 8 digits */
+#define MALQUINDO_STAMP_AUTHORITY 4   /* 5F4B: 1 to 10 characters */
+#define MALQUINDO_STAMP_LOCATION 5    /* 5F46: 1 to 10 characters */
+#define MALQUINDO_STAMP_INSPECTOR 6   /* 5F4A: 1 to 20 characters */
+#define MALQUINDO_STAMP_RESULT 7      /* 5F4D, optional: 1 to 50 characters */
+#define MALQUINDO_STAMP_MODE 8        /* 5F49, optional: 1 letter */
+#define MALQUINDO_STAMP_DURATION 9    /* 5F48, optional: 1 or 2 bytes */
+#define MALQUINDO_STAMP_CONDITIONS 10 /* 5F4E, optional: 1 to 50 characters */
+#define MALQUINDO_STAMP_SIGNATURE 11  /* 5F37, behind 73: 1 to 140 bytes */
+#define MALQUINDO_STAMP_REFERENCE 12  /* 5F38: 1 byte, 01 to FE: the number of a travel certificate */
+
+/* Why a record is no stamp. */
+#define MALQUINDO_STAMP_TAG 1     /* an object is missing, out of order or too many */
+#define MALQUINDO_STAMP_LENGTH 2  /* a length that goes too far, is not the shortest form, or that the table does not allow */
+#define MALQUINDO_STAMP_CONTENT 3 /* a value that the table does not allow, or two States that differ */
+
 /* The parts of a result. */
 
-/* Of every function but malquindo_file: the refusal, 0 for none. */
+/* Of every function but malquindo_file and malquindo_stamp_read: the refusal, 0 for none. */
 static inline unsigned malquindo_refusal(uint64_t result) { return (unsigned)(result >> 32); }
 /* Of a command: the length of the answer. */
 static inline size_t malquindo_length(uint64_t result) { return (size_t)(result >> 16 & 0xFFFF); }
@@ -194,6 +233,15 @@ static inline const uint8_t *malquindo_index_record(const uint8_t *body, const u
 {
     return body + places[number - 1] + 2;
 }
+
+/* Of a stamp: why the record is none, one of the three above, or refusal 15; 0 where it is a stamp. */
+static inline unsigned malquindo_stamp_reason(uint64_t result) { return (unsigned)(result >> 32); }
+/* Of a record that is no stamp: where the first fault is. */
+static inline size_t malquindo_stamp_offset(uint64_t result) { return (size_t)(result & 0xFFFFFFFF); }
+/* Of a stamp: where the value of a field begins in the record, 0 where the field is absent. */
+static inline size_t malquindo_stamp_place(const uint32_t *places, unsigned field) { return places[2 * field]; }
+/* Of a stamp: how many bytes the value of a field has, 0 where the field is absent. */
+static inline size_t malquindo_stamp_length(const uint32_t *places, unsigned field) { return places[2 * field + 1]; }
 
 #ifdef __cplusplus
 }

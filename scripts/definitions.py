@@ -18,7 +18,7 @@ Definition = collections.namedtuple('Definition', 'crate file line name comment 
 
 PUB = re.compile(r"^(?:unfoldable |abbrev |opaque )*pub (?:data |record )?([^\W\d][\w'′-]*)\s*(?::|\(|\{|$)")
 DECLARED = re.compile(r'^pub (?:enum|struct|const) (\w+)')
-TAG = re.compile(r'\[([A-Z]\d+)\]')
+TAG = re.compile(r'\[([A-Z]{1,2}\d+)\]')
 
 
 def spec_files():

@@ -13,7 +13,7 @@ sys.dont_write_bytecode = True     # no files beside the scripts
 from definitions import ROOT, believed, declared
 
 RULES = ROOT / 'docs/RULES.md'
-CLAUSE = re.compile(r'^- \*\*([A-Z]\d+)\.\*\*')
+CLAUSE = re.compile(r'^- \*\*([A-Z]{1,2}\d+)\.\*\*')
 WIDTH = 150
 
 

@@ -1,6 +1,7 @@
 /* Selects the travel application of a card, appends a record and reads it back; then moves the card to rooms of 100 bytes
  * and reads the record there. Appends a certificate there too, and asks for certificates by number, of that card and of a
- * desk that has one more. Then keeps an index while a second record is appended, and reads that record by its place. */
+ * desk that has one more. Then keeps an index while a second record is appended, and reads that record by its place. Last
+ * reads a stamp, and says why another record is none. */
 #include <stdio.h>
 #include <string.h>
 #include "malquindo.h"
@@ -94,6 +95,48 @@ static int indexed(void)
     return memcmp(response, record, length) != 0 || response[length] != 0x90; /* the status word stands behind the record */
 }
 
+/* Says two fields of a record that is a stamp, or why it is none. */
+static int stamp(const uint8_t *record, size_t record_len)
+{
+    uint32_t places[MALQUINDO_STAMP_PLACES];
+    uint64_t result = malquindo_stamp_read(record, record_len, places, MALQUINDO_STAMP_PLACES);
+    unsigned at = (unsigned)malquindo_stamp_offset(result);
+    switch (malquindo_stamp_reason(result)) {
+    case 0: /* a stamp */
+        break;
+    case MALQUINDO_STAMP_TAG:
+        printf("no stamp: a wrong tag at %u\n", at);
+        return 0;
+    case MALQUINDO_STAMP_LENGTH:
+        printf("no stamp: a wrong length at %u\n", at);
+        return 0;
+    case MALQUINDO_STAMP_CONTENT:
+        printf("no stamp: a wrong value at %u\n", at);
+        return 0;
+    default:
+        return 1;
+    }
+    printf("stamp of %.*s, certificate %u, ", (int)malquindo_stamp_length(places, MALQUINDO_STAMP_STATE),
+           (const char *)record + malquindo_stamp_place(places, MALQUINDO_STAMP_STATE),
+           record[malquindo_stamp_place(places, MALQUINDO_STAMP_REFERENCE)]);
+    /* an optional field that is absent has no byte */
+    puts(malquindo_stamp_length(places, MALQUINDO_STAMP_MODE) == 0 ? "no mode" : "a mode");
+    return 0;
+}
+
+/* Reads a stamp, and the same record when its first State is another. */
+static int stamps(void)
+{
+    static uint8_t record[] =
+        "\x5F\x44\x03" "UTO" "\x73\x1D" "\x5F\x44\x03" "UTO" "\x5F\x45\x08" "20261116"
+        "\x5F\x4B\x01" "A" "\x5F\x46\x01" "L" "\x5F\x4A\x01" "I" "\x5F\x37\x01\xA5" "\x5F\x38\x01\x02";
+    size_t length = sizeof record - 1; /* without the 0 of C */
+    if (stamp(record, length))
+        return 1;
+    record[3] = 'A';
+    return stamp(record, length);
+}
+
 int main(void)
 {
     static const uint8_t select[] = {0x00, 0xA4, 0x04, 0x0C, 0x07, 0xA0, 0x00, 0x00, 0x02, 0x47, 0x20, 0x01};
@@ -109,5 +152,5 @@ int main(void)
     return run(image, sizeof image, select, sizeof select) || run(image, sizeof image, append, sizeof append)
         || run(image, sizeof image, read, sizeof read) || move_card() || run(larger, sizeof larger, read, sizeof read)
         || run(larger, sizeof larger, append_certificate, sizeof append_certificate)
-        || certificate(1) || certificate(2) || certificate(3) || indexed();
+        || certificate(1) || certificate(2) || certificate(3) || indexed() || stamps();
 }

@@ -52,6 +52,17 @@ An index of EntryRecords, which reads a record without a walk over those before 
     >>> index
     Index(0x0101, [2, 10, 18])
 
+A stamp, which is a travel record by Table 11 of ICAO's LDS2 report. A record that is none has a fault, and that is an exception:
+
+    >>> record = bytes.fromhex('5F440355544F 731D 5F440355544F 5F45083230323631313136 5F4B0141 5F46014C 5F4A0149 5F3701A5 5F380102')
+    >>> stamp = malquindo.read_stamp(record)
+    >>> stamp.state, stamp.date, stamp.mode, stamp.reference
+    (b'UTO', b'20261116', None, 2)
+    >>> malquindo.read_stamp(record[:-1])
+    Traceback (most recent call last):
+    ...
+    malquindo.StampFault: offset 41, LENGTH: a length goes too far, is not the shortest form or is not allowed
+
 A status word is an answer, whatever it says. A call that gets none is refused, and that is an exception:
 
     >>> malquindo.command(bytearray(b'no card'), session, b'')
@@ -59,9 +70,10 @@ A status word is an answer, whatever it says. A call that gets none is refused, 
     ...
     malquindo.Refused: 2 BAD_IMAGE: the image is not well formed
 
-open, command, move_card, file, certificate and Index are for most callers. malquindo_open, malquindo_command, malquindo_move,
-malquindo_file, malquindo_certificate, malquindo_index_build, malquindo_index_extend and malquindo_index_read are the functions of the header
-themselves: they take every buffer of the call and answer the number of 64 bits, so that a test can lend a buffer that is too short.
+open, command, move_card, file, certificate, Index and read_stamp are for most callers. malquindo_open, malquindo_command, malquindo_move,
+malquindo_file, malquindo_certificate, malquindo_index_build, malquindo_index_extend, malquindo_index_read and malquindo_stamp_read are the
+functions of the header themselves: they take every buffer of the call and answer the number of 64 bits, so that a test can lend a buffer
+that is too short.
 
 Buffers are bytes, bytearray or memoryview. One that is written, such as the image, is no bytes object. A list of places is an array.array
 of 32-bit numbers, array.array('I'), or a memoryview of one. Each length is that of the buffer; a type that does not fit is a TypeError, and
@@ -79,19 +91,22 @@ import subprocess
 import sys
 from typing import Iterable, NamedTuple, Optional, Tuple, Union
 
-__all__ = ['RIGHTS_LEN', 'SESSION_LEN', 'RESPONSE_LEN', 'IMAGE_LEN', 'RECORDS', 'Refusal', 'Refused', 'Answer', 'Source', 'Certificate',
-           'Index', 'open', 'command', 'move_card', 'file', 'certificate',
+__all__ = ['RIGHTS_LEN', 'SESSION_LEN', 'RESPONSE_LEN', 'IMAGE_LEN', 'RECORDS', 'STAMP_LEN', 'STAMP_PLACES', 'Refusal', 'Refused', 'Answer',
+           'Source', 'Certificate', 'Index', 'Reason', 'StampFault', 'Stamp', 'open', 'command', 'move_card', 'file', 'certificate',
+           'read_stamp',
            'malquindo_session_len', 'malquindo_open', 'malquindo_command', 'malquindo_move', 'malquindo_file', 'malquindo_certificate',
-           'malquindo_index_build', 'malquindo_index_extend', 'malquindo_index_read',
+           'malquindo_index_build', 'malquindo_index_extend', 'malquindo_index_read', 'malquindo_stamp_read',
            'malquindo_refusal', 'malquindo_length', 'malquindo_status', 'malquindo_moved', 'malquindo_file_place', 'malquindo_file_length',
            'malquindo_certificate_which', 'malquindo_certificate_place', 'malquindo_certificate_length', 'malquindo_index_places',
-           'malquindo_index_length']
+           'malquindo_index_length', 'malquindo_stamp_reason', 'malquindo_stamp_offset', 'malquindo_stamp_place', 'malquindo_stamp_length']
 
 RIGHTS_LEN = 60         # the rights of a chain: three certificates of 20 bytes
 SESSION_LEN = 25        # a session
 RESPONSE_LEN = 2050     # the shortest response buffer: 2,048 bytes of data, SW1, SW2
 IMAGE_LEN = 262144      # the longest card image
 RECORDS = 254           # the most records of a file
+STAMP_LEN = 391         # the longest stamp
+STAMP_PLACES = 26       # the places of a stamp's fields: two numbers for each of 13
 
 ROOT = pathlib.Path(__file__).resolve().parents[2]
 ARCHIVE = ROOT / 'target/staticlib/libmalquindo.a'
@@ -106,7 +121,7 @@ Places = Union[array.array, memoryview]
 
 
 class Refusal(enum.IntEnum):
-    """Why a call got no status word, no new image, no index, no record or no certificate. The numbers are those of the header."""
+    """Why a call got no status word, no new image, no index, no record, no certificate or no stamp. The numbers are those of the header."""
     SHORT_BUFFER = 1
     BAD_IMAGE = 2
     BAD_RIGHTS = 3
@@ -117,6 +132,7 @@ class Refusal(enum.IntEnum):
     MISSING_KIND = 11
     SMALL_ROOM = 12
     SHORT_TARGET = 13
+    SHORT_LIST = 15
 
 
 REASONS = {
@@ -130,6 +146,7 @@ REASONS = {
     Refusal.MISSING_KIND: 'a file of the old card has no room in the list',
     Refusal.SMALL_ROOM: 'a room is too small for its content',
     Refusal.SHORT_TARGET: 'the target is shorter than the new image',
+    Refusal.SHORT_LIST: "the list is too short for a stamp's places",
 }
 
 
@@ -213,6 +230,49 @@ class Index:
         return f'Index(0x{self.kind:04X}, {self._places.tolist()})'
 
 
+class Reason(enum.IntEnum):
+    """Why a record is no stamp. The numbers are those of the header; they are no refusals."""
+    TAG = 1
+    LENGTH = 2
+    CONTENT = 3
+
+
+FAULTS = {
+    Reason.TAG: 'an object is missing, out of order or too many',
+    Reason.LENGTH: 'a length goes too far, is not the shortest form or is not allowed',
+    Reason.CONTENT: 'a value is not allowed, or the two States differ',
+}
+
+
+class StampFault(Exception):
+    """The first thing that is wrong with a record that is no stamp. `at` is where its object begins, or where a missing one should stand."""
+
+    def __init__(self, at: int, reason: int):
+        # A library of another version may have other reasons.
+        known = reason in FAULTS
+        self.at = at
+        self.reason = Reason(reason) if known else reason
+        what = f'{self.reason.name}: {FAULTS[reason]}' if known else f'{reason}, which is not known here'
+        super().__init__(f'offset {at}, {what}')
+
+
+class Stamp(NamedTuple):
+    """What a stamp says, in the order of Table 11. An optional field that is absent is None."""
+    state_copy: bytes               # the same as the State
+    state: bytes                    # 3 letters
+    visas: Optional[bytes]          # approvals, refusals and revocations of visas
+    date: bytes                     # 8 digits
+    authority: bytes
+    location: bytes
+    inspector: bytes
+    result: Optional[bytes]
+    mode: Optional[bytes]           # 1 letter
+    duration: Optional[bytes]       # 1 or 2 bytes
+    conditions: Optional[bytes]
+    signature: bytes
+    reference: int                  # the number of a travel certificate, as `certificate` takes it
+
+
 def open(rights: Buffer) -> bytearray:
     """A session with the rights of three certificates of 20 bytes each. A command changes it in place."""
     session = bytearray(SESSION_LEN)
@@ -264,6 +324,18 @@ def certificate(card: Buffer, desk: Buffer, reference: int) -> Optional[Certific
     return Certificate(source, body[place:place + malquindo_certificate_length(result)])
 
 
+def read_stamp(record: Buffer) -> Stamp:
+    """What a stamp says: a travel record by Table 11, as EntryRecords and ExitRecords hold them. StampFault where the record is none."""
+    places = array.array('I', [0] * STAMP_PLACES)
+    result = malquindo_stamp_read(record, places)
+    if result:
+        raise StampFault(malquindo_stamp_offset(result), malquindo_stamp_reason(result))
+    view = byte_view('record', record)
+    parts = ((malquindo_stamp_place(places, field), malquindo_stamp_length(places, field)) for field in range(STAMP_PLACES // 2))
+    *values, reference = (bytes(view[place:place + length]) or None for place, length in parts)
+    return Stamp(*values, reference[0])
+
+
 def malquindo_session_len() -> int:
     """How many bytes a session has."""
     return library().malquindo_session_len()
@@ -311,8 +383,13 @@ def malquindo_index_read(body: Buffer, places: Places, number: int) -> int:
     return call(library().malquindo_index_read, read('body', body), read_places('places', places), fitting('a number', number, 8))
 
 
+def malquindo_stamp_read(record: Buffer, places: Places) -> int:
+    """Writes the places of a stamp's fields into a list. The result is 0; or reason * 2^32 + the offset of the first fault; or 15 * 2^32."""
+    return call(library().malquindo_stamp_read, read('record', record), written_places('places', places))
+
+
 def malquindo_refusal(result: int) -> int:
-    """Of every function but malquindo_file: the refusal, 0 for none."""
+    """Of every function but malquindo_file and malquindo_stamp_read: the refusal, 0 for none."""
     return result >> 32
 
 
@@ -364,6 +441,26 @@ def malquindo_index_places(result: int) -> int:
 def malquindo_index_length(result: int) -> int:
     """Of reading by an index: the length of the record."""
     return result & 0xFFFFFFFF
+
+
+def malquindo_stamp_reason(result: int) -> int:
+    """Of a stamp: why the record is none, or refusal 15; 0 where it is a stamp."""
+    return result >> 32
+
+
+def malquindo_stamp_offset(result: int) -> int:
+    """Of a record that is no stamp: where the first fault is."""
+    return result & 0xFFFFFFFF
+
+
+def malquindo_stamp_place(places: Places, field: int) -> int:
+    """Of a stamp: where the value of a field begins in the record, 0 where the field is absent. Fields count from 0."""
+    return places[2 * field]
+
+
+def malquindo_stamp_length(places: Places, field: int) -> int:
+    """Of a stamp: how many bytes the value of a field has, 0 where the field is absent."""
+    return places[2 * field + 1]
 
 
 def accept(result: int) -> int:
@@ -488,7 +585,8 @@ FUNCTIONS = {'malquindo_open': 2 * BYTES, 'malquindo_command': 4 * BYTES, 'malqu
              'malquindo_file': BYTES + [ctypes.c_uint16], 'malquindo_certificate': 2 * BYTES + [ctypes.c_uint8],
              'malquindo_index_build': [ctypes.c_uint16] + BYTES + PLACES,
              'malquindo_index_extend': [ctypes.c_uint16] + BYTES + PLACES + [ctypes.c_size_t],
-             'malquindo_index_read': BYTES + PLACES + [ctypes.c_size_t]}
+             'malquindo_index_read': BYTES + PLACES + [ctypes.c_size_t],
+             'malquindo_stamp_read': BYTES + PLACES}
 
 
 @functools.lru_cache(maxsize=None)

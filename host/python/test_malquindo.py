@@ -14,7 +14,7 @@ import unittest
 sys.dont_write_bytecode = True     # no files beside the module
 sys.path.insert(0, str(pathlib.Path(__file__).resolve().parent))
 import malquindo
-from malquindo import Index, Source, Refusal
+from malquindo import Index, Reason, Source, Refusal, Stamp
 
 ALL_RIGHTS = b'\xFF' * malquindo.RIGHTS_LEN
 TRAVEL = [(0x0101, 40), (0x0102, 40), (0x011A, 40)]
@@ -109,6 +109,7 @@ class Empty(Case):
         self.answers(malquindo.malquindo_index_extend(0x0101, b'', none, 0), Refusal.BAD_INDEX)
         self.answers(malquindo.malquindo_index_read(b'', none, 1), Refusal.BAD_INDEX)
         self.assertEqual(malquindo.malquindo_index_build(0x0101, bytes(2), none), 0)
+        self.answers(malquindo.malquindo_stamp_read(b'', none), Refusal.SHORT_LIST)
 
 
 class Short(Case):
@@ -519,9 +520,135 @@ class Indexes(Case):
         self.assertRaises(TypeError, Index.build, 0x0101, '0000')
 
 
+class Stamps(Case):
+    TAGS = (0x44, 0x44, 0x4C, 0x45, 0x4B, 0x46, 0x4A, 0x4D, 0x49, 0x48, 0x4E, 0x37, 0x38)
+    LONGEST = (3, 3, 50, 8, 10, 10, 20, 50, 1, 2, 50, 140, 1)
+    OPTIONAL = (2, 7, 8, 9, 10)
+    VALUES = (b'UTO', b'UTO', b'V 1', b'20261116', b'UBP', b'AIR<7', b'I07', b'OK', b'A', b'\x00\x5A', b'NO WORK', b'\x00\xFF\x73', b'\xFE')
+
+    @staticmethod
+    def object(tag, value):
+        return tag + (bytes([len(value)]) if len(value) < 0x80 else bytes([0x81, len(value)])) + value
+
+    def record(self, values):
+        """The stamp of these values; one that is None is left out."""
+        fields = [b'' if value is None else self.object(bytes([0x5F, tag]), value) for tag, value in zip(self.TAGS, values)]
+        return fields[0] + self.object(b'\x73', b''.join(fields[1:11])) + fields[11] + fields[12]
+
+    def shortest(self):
+        return self.record([value if at in (0, 1, 3) else None if at in self.OPTIONAL else value[:1] for at, value in enumerate(self.VALUES)])
+
+    def fault(self, record, reason, at):
+        with self.assertRaises(malquindo.StampFault) as caught:
+            malquindo.read_stamp(record)
+        self.assertEqual((caught.exception.reason, caught.exception.at), (reason, at))
+        self.assertIsInstance(caught.exception.reason, Reason)
+
+    @staticmethod
+    def entries(count):
+        """Entries that are no places."""
+        return array.array('I', range(0xEE000000, 0xEE000000 + count))
+
+    def test_all_fields(self):
+        stamp = malquindo.read_stamp(self.record(self.VALUES))
+        self.assertEqual(stamp, self.VALUES[:-1] + (0xFE,))
+        self.assertEqual((stamp.state, stamp.mode, stamp.reference), (b'UTO', b'A', 0xFE))
+
+    def test_optional_fields(self):
+        for bits in range(32):
+            values = list(self.VALUES)
+            for bit, field in enumerate(self.OPTIONAL):
+                if bits >> bit & 1:
+                    values[field] = None
+            self.assertEqual(malquindo.read_stamp(self.record(values)), (*values[:-1], 0xFE))
+
+    def test_the_shortest_and_the_longest(self):
+        self.assertEqual(len(self.shortest()), 45)
+        self.assertEqual(sum(value is None for value in malquindo.read_stamp(self.shortest())), 5)
+        values = [(value * 140)[:longest] for value, longest in zip(self.VALUES, self.LONGEST)]
+        self.assertEqual(len(self.record(values)), malquindo.STAMP_LEN)
+        self.assertEqual(malquindo.read_stamp(self.record(values)), (*values[:-1], 0xFE))
+        for at in range(13):
+            with self.assertRaises(malquindo.StampFault) as caught:
+                malquindo.read_stamp(self.record(values[:at] + [values[at] + b'7'] + values[at + 1:]))
+            self.assertIs(caught.exception.reason, Reason.LENGTH)
+
+    def test_faults(self):
+        stamp = self.shortest()
+        self.fault(b'', Reason.TAG, 0)
+        self.fault(stamp[6:], Reason.TAG, 0)
+        self.fault(stamp[:41], Reason.TAG, 41)
+        self.fault(stamp[:42], Reason.TAG, 41)
+        self.fault(stamp[:43], Reason.LENGTH, 41)
+        self.fault(stamp[:44], Reason.LENGTH, 41)
+        self.fault(stamp + b'\x00', Reason.TAG, 45)
+        self.fault(stamp[:7] + b'\x81' + stamp[7:], Reason.LENGTH, 6)
+        for reference in (b'\x00', b'\xFF'):
+            self.fault(stamp[:44] + reference, Reason.CONTENT, 41)
+        # States that differ are told at the second, one that is no State where it stands.
+        self.fault(stamp[:3] + b'uTO' + stamp[6:], Reason.CONTENT, 8)
+        self.fault(stamp[:11] + b'UTU' + stamp[14:], Reason.CONTENT, 8)
+        self.fault(stamp[:3] + b'U1O' + stamp[6:], Reason.CONTENT, 0)
+        # No inspector: what is missing should stand where the signed part ends.
+        missing = self.record([None if at == 6 or at in self.OPTIONAL else value for at, value in enumerate(self.VALUES)])
+        self.fault(missing, Reason.TAG, len(missing) - 10)
+
+    def test_the_words(self):
+        self.assertEqual(str(malquindo.StampFault(41, 1)), 'offset 41, TAG: an object is missing, out of order or too many')
+        self.assertEqual((sorted(Reason), set(malquindo.FAULTS)), ([1, 2, 3], set(Reason)))
+        unknown = malquindo.StampFault(7, 4)
+        self.assertEqual((unknown.at, unknown.reason, str(unknown)), (7, 4, 'offset 7, 4, which is not known here'))
+
+    def test_the_list(self):
+        record = self.shortest()
+        for count in (0, 1, 25):
+            for read in (record, b''):
+                places = self.entries(count)
+                self.answers(malquindo.malquindo_stamp_read(read, places), Refusal.SHORT_LIST)
+                self.assertEqual(places, self.entries(count))
+        for count in (26, 27, 40):
+            places = self.entries(count)
+            result = malquindo.malquindo_stamp_read(record + b'\x00', places)
+            self.assertEqual((malquindo.malquindo_stamp_reason(result), malquindo.malquindo_stamp_offset(result)), (1, 45))
+            self.assertEqual(places, self.entries(count))
+            self.assertEqual(malquindo.malquindo_stamp_read(record, places), 0)
+            self.assertEqual(places[:8].tolist(), [3, 3, 11, 3, 0, 0, 17, 8])
+            self.assertEqual((malquindo.malquindo_stamp_place(places, 12), malquindo.malquindo_stamp_length(places, 12)), (44, 1))
+            self.assertEqual(places[26:], self.entries(count)[26:])
+        shelf = self.entries(30)
+        self.assertEqual(malquindo.malquindo_stamp_read(record, memoryview(shelf)[2:28]), 0)
+        self.assertEqual((shelf[:2], shelf[28:]), (self.entries(30)[:2], self.entries(30)[28:]))
+
+    def test_any_buffer(self):
+        record = self.record(self.VALUES)
+        stamp = malquindo.read_stamp(record)
+        pairs = memoryview(array.array('H', record + bytes(len(record) % 2)))
+        for buffer in (bytearray(record), memoryview(record), memoryview(b'\x00' + record)[1:], pairs.cast('B')[:len(record)]):
+            self.assertEqual(malquindo.read_stamp(buffer), stamp)
+        even = self.record([value + b'7' if at == 11 and len(record) % 2 else value for at, value in enumerate(self.VALUES)])
+        self.assertEqual(malquindo.read_stamp(memoryview(array.array('H', even))), malquindo.read_stamp(even))
+
+    def test_wrong_arguments(self):
+        record = self.shortest()
+        for wrong in ('5F44', 7, None, [0, 1]):
+            self.assertRaises(TypeError, malquindo.read_stamp, wrong)
+        for wrong in ([0] * 26, bytes(104), bytearray(104), array.array('i', [0] * 26), memoryview(self.entries(26)).toreadonly(), None):
+            self.assertRaises(TypeError, malquindo.malquindo_stamp_read, record, wrong)
+
+    def test_of_a_card(self):
+        image = malquindo.move_card(b'', [(0x0101, 100), (0x0102, 2), (0x011A, 40)])
+        record = self.shortest()[:-1] + b'\x01'
+        for command in (SELECT, b'\x00\xE2\x00\x08\x2D' + record, bytes.fromhex('00E200D0037F21C1')):
+            self.assertEqual(malquindo.command(image, self.session, command).status, 0x9000)
+        body, card = (memoryview(image)[place:place + length] for place, length in (malquindo.file(image, kind) for kind in (0x0101, 0x011A)))
+        stamp = malquindo.read_stamp(Index.build(0x0101, body).read(body, 1))
+        self.assertIsInstance(stamp, Stamp)
+        self.assertEqual(str(malquindo.certificate(card, bytes(2), stamp.reference)), 'CARD 7F21C1')
+
+
 class Refusals(Case):
     def test_the_numbers(self):
-        self.assertEqual(sorted(Refusal), [1, 2, 3, 4, 6, 9, 10, 11, 12, 13])
+        self.assertEqual(sorted(Refusal), [1, 2, 3, 4, 6, 9, 10, 11, 12, 13, 15])
         self.assertEqual(malquindo.accept(0x29000), 0x29000)
         self.assertEqual(set(malquindo.REASONS), set(Refusal))
         self.assertEqual(malquindo.Refused(99).refusal, 99)

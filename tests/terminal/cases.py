@@ -1,10 +1,10 @@
 #!/usr/bin/env python3
 """Makes what the program `program_terminal` is run on, and what it must write: crates/program_terminal/stdin, stdout, args and data/.
 
-The card is the card to try of docs/RULES.md, in a file. The input is demo/worked.apdu, then lines that cannot be read, rights in
-hexadecimal and in words, where the session stands, help, long lines, what the card holds, moves, and certificates by their references. The
+The card is the card to try of docs/RULES.md, in a file, with a larger room for ExitRecords, so that it can hold stamps. The input is demo/worked.apdu, then lines that cannot be read, rights in
+hexadecimal and in words, where the session stands, help, long lines, what the card holds, moves, certificates by their references, and stamps. The
 answers to the commands are the ones that the source of the rules prints, and for the search by 08 the one of clause T1; the rights follow
-section B of the rules, the certificates section P; the words are those of the tables below.
+section B of the rules, the certificates section P, the stamps section TR; the words are those of the tables below.
 
 The gate compares standard output alone. `run.py` beside this file compares standard error and the exit status, too.
 
@@ -54,6 +54,7 @@ Each line is answered. Spaces may stand anywhere in hexadecimal; # starts a comm
   show                        lists what the card holds
   certificate 07              shows the certificate that a stamp names by 07
   certificate 07 other.card   looks for it on the card, and then in the card image of a file
+  stamp 07                    reads record 07 of EntryRecords as a stamp; `stamp 07 exit` one of ExitRecords
   move new.card 0101 100 0102 50 011A 40
                               writes the card with other rooms into a new file
   help                        writes this
@@ -71,8 +72,12 @@ def section(kind, body):
     return len(body).to_bytes(4, "little") + kind.to_bytes(2, "little") + body
 
 
+# the rooms of EntryRecords, ExitRecords and travel certificates
+ROOMS = (40, 900, 40)
+
+
 def to_try():
-    return b"".join(section(kind, bytes(40)) for kind in (0x0101, 0x0102, 0x011A))
+    return b"".join(section(kind, bytes(room)) for kind, room in zip((0x0101, 0x0102, 0x011A), ROOMS))
 
 
 def record_body(records):
@@ -153,7 +158,7 @@ class Cases:
         self.says(line, CANNOT + line)
 
 
-def shown(*records, rooms=(40, 40, 40), visa=()):
+def shown(*records, rooms=ROOMS, visa=()):
     used = 2 + sum(2 + len(r) // 2 for r in records)
     files = [f"  EntryRecords            records {len(records)} of 254, bytes left {rooms[0] - used}",
              *(f"    {i + 1}: {spaced(r)}" for i, r in enumerate(records)),
@@ -261,7 +266,7 @@ def moves(c):
     for line in ("move", "move other.card 0101", "move other.card 0101 40 0102 40 011A forty", "move other.card 10101 40",
                  "move other.card 0101 4294967296"):
         c.cannot(line)
-    c.says("show", *shown_moved((40, 40, 40)))
+    c.says("show", *shown_moved(ROOMS))
 
 
 def certificates(c):
@@ -290,6 +295,98 @@ def certificates(c):
         c.cannot(line)
 
 
+# TR3, TR5: the fields of a stamp by their names, with their tags; those that are no text
+FIELDS = [("State (copy)", 0x5F44), ("State", 0x5F44), ("visa approvals", 0x5F4C), ("date", 0x5F45), ("authority", 0x5F4B),
+          ("location", 0x5F46), ("inspector", 0x5F4A), ("result", 0x5F4D), ("mode", 0x5F49), ("duration", 0x5F48),
+          ("conditions", 0x5F4E), ("signature", 0x5F37), ("certificate reference", 0x5F38)]
+BINARY = {"duration", "signature", "certificate reference"}
+
+# TR9: the reasons
+REASONS = {
+    "tag": "wrong tag: an object is missing, out of order, or too many",
+    "length": "wrong length: past the end, not in its shortest form, or none that Table 11 allows",
+    "content": "wrong content: none that Table 11 allows, or not the State that stands first",
+}
+
+
+def object_of(tag, value):
+    """D1, D2"""
+    size = bytes([len(value)]) if len(value) < 0x80 else bytes([0x81, len(value)])
+    return tag.to_bytes(2 if tag > 0xFF else 1, "big") + size + value
+
+
+def stamp_of(values):
+    """TR5: the bytes of fields; one that is None is left out."""
+    objects = [b"" if v is None else object_of(tag, v) for (_, tag), v in zip(FIELDS, values)]
+    return objects[0] + object_of(0x73, b"".join(objects[1:11])) + b"".join(objects[11:])
+
+
+def fields_of(values):
+    """The lines of a stamp."""
+    for (name, _), value in zip(FIELDS, values):
+        said = "(absent)" if value is None else spaced(value.hex()) if name in BINARY else value.decode()
+        yield f"  {name:<23} {said}"
+
+
+def rows_of(record, at, reason):
+    """The bytes of a record, 16 in a row, and an arrow under its fault."""
+    for row in range(0, len(record) + 1, 16):
+        if record[row:row + 16] or at == row:
+            yield "  " + spaced(record[row:row + 16].hex()) if record[row:row + 16] else " "
+        if row <= at < row + 16:
+            yield " " * (2 + 3 * (at - row)) + "^ " + REASONS[reason]
+
+
+# the shortest stamp; one with every field, as in the examples of Table 11; one whose length field has two bytes
+SHORT = [b"USA", b"USA", None, b"20120814", b"C", b"S", b"1", None, None, None, None, b"\x5A", b"\x01"]
+EVERY = [b"USA", b"USA", b"refused 2011", b"20120814", b"CBP", b"SFO", b"SFO00001234", b"let in", b"A", b"\x00\xFF", b"no work <", bytes(range(64, 96)),
+         b"\xFE"]
+LONG = [b"abc", b"abc", None, b"00000000", b"Z" * 10, b"<", b" ", None, b"z", b"\x1E", None, b"\xFF" * 140, b"\x07"]
+
+
+def stamps(c):
+    """Records read as stamps: what they say, and what is wrong with them. ExitRecords has one record, the byte 77."""
+    none = "= record {} is missing"
+    for line, title in (("stamp 04", "04 of EntryRecords"), ("stamp 00", "00 of EntryRecords"), ("stamp fF", "FF of EntryRecords"),
+                        ("stamp 02 exit", "02 of ExitRecords")):
+        c.says(line, none.format(title))
+
+    def wrong(line, title, record, at, reason):
+        c.says(line, f"= record {title} is no stamp: first fault at offset {at}", *rows_of(record, at, reason))
+
+    entries = [bytes.fromhex(r) for r in RECORDS]
+    wrong("stamp 01", "01 of EntryRecords", entries[0], 6, "tag")                 # `73` is missing, at the end
+    wrong(" stamp\t3 # a comment", "03 of EntryRecords", entries[2], 0, "tag")
+    wrong("stamp 1  exit", "01 of ExitRecords", b"\x77", 0, "tag")
+    numbers = iter(range(2, 256))
+
+    def appended(record):
+        c.command(f"00E20010{len(record):02X}{record.hex()}", "9000")
+        return f"{next(numbers):02X}"
+
+    for values in (SHORT, EVERY, LONG):
+        number = appended(stamp_of(values))
+        c.says(f"stamp {number} exit", f"= record {number} of ExitRecords is a stamp", *fields_of(values))
+
+    def with_field(k, value):
+        return stamp_of([*SHORT[:k], value, *SHORT[k + 1:]])
+
+    short = stamp_of(SHORT)
+    no_signature = stamp_of([*SHORT[:4], b"C" * 10, b"SFO", *SHORT[6:11], None, None])     # 48 bytes, three whole rows
+    assert len(short) == 45 and len(no_signature) == 48
+    for record, at, reason in (
+            (no_signature, 48, "tag"),                                # the signature is missing, at the end
+            (short + b"\x00", 45, "tag"),                             # a byte behind
+            (with_field(1, b"FRA"), 8, "content"),                    # another State
+            (with_field(3, b"2012081A"), 14, "content"),
+            (with_field(5, b""), 29, "length"),
+            (with_field(12, b"\xFF"), 41, "content")):
+        number = appended(record)
+        wrong(f"stamp {number} exit", f"{number} of ExitRecords", record, at, reason)
+    for line in ("stamp", "stamp 100", "stamp -1", "stamp zz", "stamp 01 entry", "stamp 01 exit 02", "stamps 01"):
+        c.cannot(line)
+
+
 def shown_moved(rooms, visa=()):
     """The card behind `rights`, which appended the byte 77 to ExitRecords."""
     lines = shown(*RECORDS, rooms=rooms, visa=visa)
@@ -307,6 +404,7 @@ def cases():
     long_input(c)
     moves(c)
     certificates(c)
+    stamps(c)
     # a last line that does not end
     c.command("00B2030C000000", RECORDS[2] + "9000")
     return c

@@ -8,6 +8,8 @@ use Rattle.base.proofs.part.Kinds as part-kinds
 use Rattle.base.proofs.part.Reads as part-reads
 use Rattle.base.proofs.whole_part.Kinds as whole-part-kinds
 use Rattle.base.proofs.whole_part.Reads as whole-part-reads
+use Rattle.base.proofs.same_bytes.Kinds as same-bytes-kinds
+use Rattle.base.proofs.same_bytes.Reads as same-bytes-reads
 use Rattle.base.proofs.put.Kinds as put-kinds
 use Rattle.base.proofs.put.Reads as put-reads
 use Rattle.base.proofs.natural.min.Kinds as min-kinds
@@ -23,6 +25,9 @@ part-determined κs a e f p q = (p ∙ sym q, refl)
 
 pub whole-part-determined : Determined-address whole-part-kinds.ps whole-part-reads.Post
 whole-part-determined κs a e f p q = let s = partOf-same (a .0) _ _ (e .0) (f .0) p q in (s .0, s .1, refl)
+
+pub same-bytes-determined : Determined same-bytes-kinds.ps same-bytes-kinds.r same-bytes-reads.Post
+same-bytes-determined κs a e f p q i = ((p ∙ sym q) i, e .1)
 
 pub put-determined : Determined put-kinds.ps put-kinds.r put-reads.Post
 put-determined κs a e f p q i = ((p .0 ∙ sym (q .0)) i, ((p .1 ∙ sym (q .1)) i, (tt, (tt, tt))))

@@ -1,10 +1,10 @@
 -- Lists of bytes: parts of one, and a run of bytes stored in it. `getD xs i 0` is the byte at i, and 0 past the end.
 use Prim.Native.Nat.{ℕ, _+_, _<_}
-use mathlib.Core.Bool.{Bool}
-use mathlib.Core.List.{List, _++_}
+use mathlib.Core.Bool.{Bool, true, false, _&&_}
+use mathlib.Core.List.{List, [], _∷_, _++_}
 use lib.ListN.{length, getD, take, drop}
 use lib.Seq.{sets}
-use lib.Dec.{leb}
+use lib.Dec.{leb, eqb}
 use Rattle.base.specs.Choice.{ifElse}
 
 -- every element is a byte [V4]
@@ -14,6 +14,13 @@ AllBytes xs = (i : ℕ) → getD xs i 0 < 256
 -- the n bytes from a on, cut at the list's end [V8]
 abbrev pub part : List ℕ → ℕ → ℕ → List ℕ
 part xs a n = take n (drop a xs)
+
+-- the same bytes, and as many [V8]
+unfoldable pub sameBytes : List ℕ → List ℕ → Bool
+sameBytes [] [] = true
+sameBytes [] (y ∷ ys) = false
+sameBytes (x ∷ xs) [] = false
+sameBytes (x ∷ xs) (y ∷ ys) = eqb x y && sameBytes xs ys
 
 -- the list with b in the place of as many bytes from s on [V8]
 unfoldable pub splice : List ℕ → ℕ → List ℕ → List ℕ

@@ -5,7 +5,7 @@ ghost use mathlib.Core.Path.{_≡_};
 ghost use Prim.Native.Nat.{_+_, _≤_, _<_};
 ghost use lib.ListN.{length, getD};
 ghost use lib.Seq.{sets};
-ghost use Rattle.base.specs.Bytes.{part as partOf, putFits as fitsAt, put as putAt};
+ghost use Rattle.base.specs.Bytes.{part as partOf, sameBytes, putFits as fitsAt, put as putAt};
 ghost use Rattle.base.specs.Lent.{WholePart};
 
 // The byte at i, and 0 past the end.
@@ -45,6 +45,23 @@ pub fn whole_part(s: &[u8], a: usize, n: usize) -> &[u8]
     }
     let e = a + n;
     &s[a..e]
+}
+
+// Whether x and y are the same bytes.
+pub fn same_bytes(x: &[u8], y: &[u8]) -> bool
+    ensures { λ r. ⌜ r ≡ sameBytes (now (x .entry)) (now (y .entry)) ⌝ }
+{
+    if x.len() != y.len() {
+        return false;
+    }
+    let mut i = 0;
+    while i < x.len() {
+        if x[i] != y[i] {
+            return false;
+        }
+        i += 1;
+    }
+    true
 }
 
 // Copies src into dst from `at` on.

@@ -1,6 +1,6 @@
 -- The card to try: the definitions compute the table of ../specs/Worked.antt. Exports `worked`.
 use mathlib.Core.Path.{refl}
-use Rattle.base.specs.Bytes.{splice, putFits, put}
+use Rattle.base.specs.Bytes.{sameBytes, splice, putFits, put}
 use Rattle.base.specs.Choice.{allOf}
 use Rattle.store_records.specs.Body.{count, behind, place, firsts, records, nth, used, appendFits, okAt, okTo, bodyOk, appendable, recordBytes, appended, append}
 use Rattle.store_records.specs.Little.{le16, le32, bytes16}
@@ -15,7 +15,7 @@ use Rattle.objects_reader.specs.Head.{lengthOf, headOf}
 use Rattle.objects_reader.specs.Places.{numberIn}
 use Rattle.objects_templates.specs.Reference.{readReference}
 use Rattle.objects_templates.specs.Search.{readSearch}
-use Rattle.machine_rights.specs.Chain.{certificate, joinedBytes, joined, clearedBytes, cleared, noRights, held, effective, sameBytes, same, isCleared}
+use Rattle.machine_rights.specs.Chain.{certificate, joinedBytes, joined, clearedBytes, cleared, noRights, held, effective, same, isCleared}
 use Rattle.machine_rights.specs.Rights.{bit, flagged, recordBit, certificateBit, mayRecords}
 use Rattle.machine_apdu.specs.Shape.{be16At, orMost, headerOf, framed, firstShape, shapes, shapeOf}
 use Rattle.machine_session.specs.Order.{inOrder}

@@ -1,8 +1,8 @@
--- Loops over the 17 bytes: a run filled from the front, joined and compared element by element. Read before: specs/Chain.antt. Exports
--- `Filled` with `fills` and `filled`, and the laws of `joinedBytes` and `sameBytes`.
+-- Loops over the 17 bytes: a run filled from the front, joined element by element. Read before: specs/Chain.antt. Exports
+-- `Filled` with `fills` and `filled`, and the laws of `joinedBytes` and `same`.
 use Prim.Native.Nat.{ℕ, zero, suc, _+_, _<_}
 use mathlib.Core.Path.{_≡_, refl, sym, ap, _∙_}
-use mathlib.Core.Bool.{true, false, and-true, and-false}
+use mathlib.Core.Bool.{false, and-true, and-false}
 use mathlib.Core.List.{List, [], _∷_}
 use native.Mathlib.Omega.{arith}
 use lib.ListN.{length, getD, set}
@@ -11,8 +11,9 @@ use lib.Bits.{bitAnd, and-zero-l, and-zero-r}
 use borrow.Author.Count.{below-more}
 use borrow.Author.Tests.{eq-eqb, ne-eqb}
 use Rattle.base.specs.Choice.{allOf}
+use Rattle.base.specs.Bytes.{sameBytes}
 use Rattle.machine_rights.specs.declared.Rights.{Rights}
-use Rattle.machine_rights.specs.Chain.{joinedBytes, sameBytes, same}
+use Rattle.machine_rights.specs.Chain.{joinedBytes, same}
 
 -- z has f at each index below k
 abbrev pub Filled : (ℕ → ℕ) → List ℕ → ℕ → Type 0
@@ -36,22 +37,6 @@ unfolding joinedBytes
 length-joined [] y e = refl
 length-joined (a ∷ x) [] e = sym e
 length-joined (a ∷ x) (b ∷ y) e = ap suc (length-joined x y (omega arith))
-
-pub same-refl : (x : List ℕ) → sameBytes x x ≡ true
-unfolding sameBytes
-same-refl [] = refl
-same-refl (a ∷ x) = simp (eq-eqb a a refl) (same-refl x)
-
-pub same-elements : (x y : List ℕ) → length x ≡ length y → ((j : ℕ) → j < length x → getD x j 0 ≡ getD y j 0) → sameBytes x y ≡ true
-same-elements x y e h = rw (ext-getD 0 x y e h) (same-refl y)
-
-pub same-differ : (x y : List ℕ) (k : ℕ) → (getD x k 0 ≡ getD y k 0 → ⊥) → sameBytes x y ≡ false
-unfolding sameBytes
-same-differ [] [] k h = absurd (h refl)
-same-differ [] (b ∷ y) k h = refl
-same-differ (a ∷ x) [] k h = refl
-same-differ (a ∷ x) (b ∷ y) zero h = simp (ne-eqb a b h)
-same-differ (a ∷ x) (b ∷ y) (suc k) h = simp (same-differ x y k h, and-false)
 
 -- two sets of rights compared, field by field
 module _ (a b : Rights) where

@@ -1,7 +1,7 @@
 -- The rights: clearing them twice is clearing them once, effective rights are in cleared form, and without its flag an application has no
 -- right. Read before: specs/Chain.antt. Exports `effective-cleared`, `effective-length`, `held-length`, `unflagged-…`.
 use Prim.Native.Nat.{ℕ, zero, suc, _-_, _/_, _%_, _≤_}
-use mathlib.Core.Path.{_≡_, refl, sym, ap, ap₂, _∙_}
+use mathlib.Core.Path.{_≡_, refl, sym, ap, _∙_}
 use mathlib.Core.Bool.{Bool, true, false, and-true, and-false}
 use mathlib.Core.List.{List, [], _∷_}
 use native.Mathlib.Omega.{arith}
@@ -10,21 +10,16 @@ use lib.ListN.{length, getD, set, replicate, length-set}
 use lib.Dec.{ltb, eqb}
 use borrow.Author.Tests.{le-leb, ltb-false, ne-eqb, eqb-true}
 use Rattle.base.specs.Choice.{ifElse, allOf}
-use Rattle.base.proofs.Cases.{ifElse-ind, and-left, and-right, false-true, allOf-facts as held-tests}
+use Rattle.base.proofs.Cases.{ifElse-ind, allOf-facts as held-tests}
+use Rattle.base.specs.Bytes.{sameBytes}
+use Rattle.base.proofs.Same.{same-equal, same-refl}
 use Rattle.base.proofs.Parts.{length-part}
 use Rattle.machine_rights.specs.declared.Rights.{Rights}
 use Rattle.machine_rights.specs.Rights.{bit, flagged, biometricsByte, mayRecords, biometricsBit, mayBiometrics}
-use Rattle.machine_rights.specs.Chain.{certificate, joinedBytes, joined, clearedBytes, cleared, noRights, effective, held, sameBytes, same, isCleared}
-use Rattle.machine_rights.proofs.Elements.{same-refl, same-rest}
+use Rattle.machine_rights.specs.Chain.{certificate, joinedBytes, joined, clearedBytes, cleared, noRights, effective, held, same, isCleared}
+use Rattle.machine_rights.proofs.Elements.{same-rest}
 
 -- ---- the same
-
-same-equal : (x y : List ℕ) → sameBytes x y ≡ true → x ≡ y
-unfolding sameBytes
-same-equal [] [] e = refl
-same-equal [] (b ∷ y) e = false-true e
-same-equal (a ∷ x) [] e = false-true e
-same-equal (a ∷ x) (b ∷ y) e = ap₂ _∷_ (eqb-true a b (and-left _ _ e)) (same-equal x y (and-right (eqb a b) _ e))
 
 pub same-self : (r : Rights) → same r r ≡ true
 same-self r = same-rest r r refl refl refl ∙ same-refl (r .biometrics)

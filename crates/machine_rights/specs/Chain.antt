@@ -1,12 +1,12 @@
 -- The effective rights of a chain of three certificates, and the cleared form.
 use Prim.Native.Nat.{ℕ, _+_, _*_, _%_}
-use mathlib.Core.Bool.{Bool, true, false, _&&_}
+use mathlib.Core.Bool.{Bool}
 use mathlib.Core.List.{List, [], _∷_}
 use lib.ListN.{length, getD, set, replicate}
 use lib.Bits.{bitAnd}
 use lib.Dec.{ltb, eqb}
 use Rattle.base.specs.Choice.{ifElse, allOf}
-use Rattle.base.specs.Bytes.{part}
+use Rattle.base.specs.Bytes.{part, sameBytes}
 use Rattle.machine_rights.specs.declared.Rights.{Rights}
 use Rattle.machine_rights.specs.Rights.{bit}
 
@@ -62,13 +62,6 @@ held xs = ifElse (ltb (length xs) 20) noRights (certificate xs 0)
 unfoldable pub effective : List ℕ → Rights
 effective c =
     ifElse (eqb (length c) 60) (cleared (joined (joined (certificate c 0) (certificate c 1)) (certificate c 2))) noRights
-
--- two runs of bytes are the same [B5]
-unfoldable pub sameBytes : List ℕ → List ℕ → Bool
-sameBytes [] [] = true
-sameBytes [] (y ∷ ys) = false
-sameBytes (x ∷ xs) [] = false
-sameBytes (x ∷ xs) (y ∷ ys) = eqb x y && sameBytes xs ys
 
 -- two sets of rights are the same [B5]
 unfoldable pub same : Rights → Rights → Bool

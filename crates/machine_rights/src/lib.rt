@@ -7,7 +7,7 @@ ghost use lib.ListN.{length, getD};
 ghost use Rattle.base.specs.Choice.{ifElse};
 ghost use Rattle.base.specs.Bytes.{part};
 ghost use Rattle.machine_rights.specs.Rights.{bit, flagged, recordBit, mayRecords, biometricsBit, mayBiometrics};
-ghost use Rattle.machine_rights.specs.Chain.{certificate, joinedBytes, joined, clearedBytes, cleared, noRights, held, effective, sameBytes, same, isCleared};
+ghost use Rattle.machine_rights.specs.Chain.{certificate, joinedBytes, joined, clearedBytes, cleared, noRights, held, effective, same, isCleared};
 
 const TRAVEL: usize = 1;
 
@@ -155,19 +155,6 @@ pub fn effective(certificates: &[u8]) -> Rights
     clear(join(join(first, second), third))
 }
 
-fn same_bytes(x: [u8; 17], y: [u8; 17]) -> bool
-    ensures { λ r. ⌜ r ≡ sameBytes x y ⌝ }
-{
-    let mut i = 0;
-    while i < 17 {
-        if x[i] != y[i] {
-            return false;
-        }
-        i += 1;
-    }
-    true
-}
-
 fn same(a: Rights, b: Rights) -> bool
     ensures { λ r. ⌜ r ≡ same a b ⌝ }
 {
@@ -182,7 +169,7 @@ fn same(a: Rights, b: Rights) -> bool
     if a.visa != b.visa {
         return false;
     }
-    same_bytes(x, y)
+    base::same_bytes(&x, &y)
 }
 
 // Whether rights are in cleared form.

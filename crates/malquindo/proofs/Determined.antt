@@ -19,6 +19,8 @@ use Rattle.malquindo.proofs.malquindo_index_extend.Kinds as malquindo-i
 use Rattle.malquindo.proofs.malquindo_index_extend.Reads as malquindo-index-extend-reads
 use Rattle.malquindo.proofs.malquindo_index_read.Kinds as malquindo-index-read-kinds
 use Rattle.malquindo.proofs.malquindo_index_read.Reads as malquindo-index-read-reads
+use Rattle.malquindo.proofs.malquindo_stamp_read.Kinds as malquindo-stamp-read-kinds
+use Rattle.malquindo.proofs.malquindo_stamp_read.Reads as malquindo-stamp-read-reads
 
 pub malquindo-session-len-determined : Determined malquindo-session-len-kinds.ps malquindo-session-len-kinds.r malquindo-session-len-reads.Post
 malquindo-session-len-determined κs a e f p q i = ((p ∙ sym q) i, e .1)
@@ -46,3 +48,6 @@ malquindo-index-extend-determined κs a e f p q i = ((p .0 ∙ sym (q .0)) i, (t
 
 pub malquindo-index-read-determined : Determined malquindo-index-read-kinds.ps malquindo-index-read-kinds.r malquindo-index-read-reads.Post
 malquindo-index-read-determined κs a e f p q i = ((p ∙ sym q) i, e .1)
+
+pub malquindo-stamp-read-determined : Determined malquindo-stamp-read-kinds.ps malquindo-stamp-read-kinds.r malquindo-stamp-read-reads.Post
+malquindo-stamp-read-determined κs a e f p q i = ((p .0 ∙ sym (q .0)) i, (tt, ((p .1 ∙ sym (q .1)) i, tt)))

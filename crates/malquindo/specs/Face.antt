@@ -20,6 +20,9 @@ use Rattle.store_image.specs.declared.Found.{Found}
 use Rattle.store_image.specs.declared.Found.the-variants.{At, Missing}
 use Rattle.store_certificates.specs.Certificates.{certificateRefusal, whichBody, certificateStretch}
 use Rattle.store_certificates.specs.declared.Located.{Located}
+use Rattle.objects_stamp.specs.Read.{findingNumber, findingPlace}
+use Rattle.objects_stamp.specs.declared.StampRead.{StampRead}
+use Rattle.objects_stamp.specs.declared.StampRead.the-variants.{Told, ShortList}
 use Rattle.store_index.specs.Index.{indexRefusal, indexCount}
 use Rattle.store_index.specs.declared.Indexed.{Indexed}
 use Rattle.store_move.specs.Moving.{moveRefusalNumber}
@@ -89,6 +92,12 @@ fileResult img k = ifElse (wellFormed img) (foundResult (find img k)) 0
 unfoldable pub certificateResult : Located → ℕ
 certificateResult l =
     certificateRefusal l * 4294967296 + whichBody l * 268435456 + certificateStretch l .start % 262144 * 1024 + certificateStretch l .length % 1024
+
+-- of a stamp: the reason · 2^32 + where the fault is, which is below 2^32; 0 where nothing is wrong. A reason is no refusal; the refusal is 15,
+-- where the list is too short [X14]
+abbrev pub stampResult : StampRead → ℕ
+stampResult (Told f) = findingNumber f * 4294967296 + findingPlace f % 4294967296
+stampResult ShortList = 15 * 4294967296
 
 -- of an index: refusal · 2^32 + how many places, or how many bytes; either is below 65,536 [X13]
 unfoldable pub indexResult : Indexed → ℕ

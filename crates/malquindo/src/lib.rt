@@ -4,6 +4,9 @@ use machine_apdu::status::NORMAL;
 use machine_session::Refusal;
 use machine_session::Session;
 use machine_session::Verdict;
+use objects_stamp::Finding;
+use objects_stamp::Reason;
+use objects_stamp::StampRead;
 use store_certificates::Located;
 use store_certificates::Stretch;
 use store_image::Found;
@@ -15,9 +18,11 @@ ghost use Prim.Native.Nat.{_≤_};
 ghost use Rattle.machine_session.specs.Verdict.{refusalNumber, verdictNumber};
 ghost use lib.ListN.{length};
 ghost use Rattle.store_certificates.specs.Certificates.{located, certificateRefusal, whichBody, certificateStretch};
+ghost use Rattle.objects_stamp.specs.Read.{reasonNumber, readStamp, readStampInto};
+ghost use Rattle.objects_stamp.specs.declared.StampRead.the-variants.{Told};
 ghost use Rattle.store_index.specs.Index.{build, buildInto, extend, extendInto, measure};
 ghost use Rattle.store_move.specs.Moving.{moveRefusalNumber, moveCard, moveCardInto};
-ghost use Rattle.malquindo.specs.Face.{moveResult, resultOf, openingVerdict, openResult, openSession, sessionAfter, calledAs, called, foundResult, fileResult, certificateResult, indexResult};
+ghost use Rattle.malquindo.specs.Face.{moveResult, resultOf, openingVerdict, openResult, openSession, sessionAfter, calledAs, called, foundResult, fileResult, certificateResult, indexResult, stampResult};
 
 fn refusal_number(r: Refusal) -> u64
     ensures { λ n. ⌜ (n ≡ refusalNumber r) × (n ≤ 4) ⌝ }
@@ -269,4 +274,44 @@ pub extern "C" fn malquindo_index_read(body: &[u8], places: &[u32], number: usiz
     ensures { λ r. ⌜ r ≡ indexResult (measure (now (body .entry)) (now (places .entry)) number) ⌝ }
 {
     index_result(store_index::measure(body, places, number))
+}
+
+// The number of a reason: tag, length, content.
+fn reason_number(r: Reason) -> u64
+    ensures { λ n. ⌜ (n ≡ reasonNumber r) × (n ≤ 3) ⌝ }
+{
+    match r {
+        Reason::WrongTag => 1,
+        Reason::WrongLength => 2,
+        Reason::WrongContent => 3,
+    }
+}
+
+// The reason of a fault, or 0, and its place in one.
+fn finding_result(f: Finding) -> u64
+    ensures { λ r. ⌜ r ≡ stampResult (Told f) ⌝ }
+{
+    match f {
+        Finding::Right => 0,
+        Finding::Wrong(reason, at) => reason_number(reason) * 4294967296 + (at % 4294967296) as u64,
+    }
+}
+
+// What a stamp's first fault is, 0 where there is none, and 15 where the list is too short, in one.
+fn stamp_result(a: StampRead) -> u64
+    ensures { λ r. ⌜ r ≡ stampResult a ⌝ }
+{
+    match a {
+        StampRead::Told(f) => finding_result(f),
+        StampRead::ShortList => 15 * 4294967296,
+    }
+}
+
+// Reads a record as a stamp: the places of its fields, or its first fault.
+#[no_mangle]
+pub extern "C" fn malquindo_stamp_read(record: &[u8], places: &mut [u32]) -> u64
+    ensures { λ r. ⌜ (r ≡ stampResult (readStamp (now («record» .entry)) (now (places .entry)))) × (now (places .exit) ≡ readStampInto (now («record» .entry)) (now (places .entry))) ⌝ }
+{
+    let a = objects_stamp::read_stamp(record, places);
+    stamp_result(a)
 }

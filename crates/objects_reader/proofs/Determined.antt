@@ -11,6 +11,8 @@ use Rattle.objects_reader.proofs.number.wide.Kinds as wide-kinds
 use Rattle.objects_reader.proofs.number.wide.Reads as wide-reads
 use Rattle.objects_reader.proofs.reader.clean.Kinds as clean-kinds
 use Rattle.objects_reader.proofs.reader.clean.Reads as clean-reads
+use Rattle.objects_reader.proofs.reader.read_all.Kinds as read-all-kinds
+use Rattle.objects_reader.proofs.reader.read_all.Reads as read-all-reads
 use Rattle.objects_reader.proofs.reader.read.Kinds as read-kinds
 use Rattle.objects_reader.proofs.reader.read.Reads as read-reads
 
@@ -28,6 +30,9 @@ wide-determined κs a e f p q i = ((p ∙ sym q) i, e .1)
 
 pub clean-determined : Determined clean-kinds.ps clean-kinds.r clean-reads.Post
 clean-determined κs a e f p q i = ((p ∙ sym q) i, e .1)
+
+pub read-all-determined : Determined read-all-kinds.ps read-all-kinds.r read-all-reads.Post
+read-all-determined κs a e f p q i = ((p ∙ sym q) i, e .1)
 
 pub read-determined : Determined read-kinds.ps read-kinds.r read-reads.Post
 read-determined κs a e f p q i = ((p ∙ sym q) i, e .1)

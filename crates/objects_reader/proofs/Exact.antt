@@ -1,12 +1,12 @@
 -- A reading by a form ends clean exactly on the form's writings, and then notes the place of each value. Read before: specs/Encoding.antt,
--- specs/Places.antt. Exports `read-sound`, `read-complete` and `noted-unique`.
-use Prim.Native.Nat.{ℕ, suc, _+_, _-_, _≤_, _<_}
+-- specs/Places.antt. Exports `all-sound`, `all-complete`, `read-sound`, `read-complete` and `noted-unique`.
+use Prim.Native.Nat.{ℕ, zero, suc, _+_, _-_, _≤_, _<_}
 use mathlib.Core.Path.{_≡_, refl, sym, ap, ap₂, _∙_}
 use mathlib.Core.List.{List, [], _∷_, _++_, append-assoc, append-nil}
 use mathlib.Core.Bool.{true}
 use mathlib.Core.Logic.{_⊎_, inl, inr, ⊎-elim}
 use native.Mathlib.Omega.{arith}
-use lib.ListN.{length, take, drop, length-set, length-drop, length-take, length-append, take-append-drop, List·getD-append, List·getD-eq-default}
+use lib.ListN.{length, take, drop, set, length-set, length-drop, length-take, length-append, take-append-drop, List·getD-append, List·getD-eq-default}
 use lib.Seq.{drop-drop, drop-at, take-at, getD-drop, getD-take, getD-set-same, getD-set-other, getD-append-seam, length-take-le, ext-getD}
 use lib.Dec.{ltb, eqb, lit<}
 use borrow.Author.Tests.{lt-ltb, le-ltb, ne-eqb, ltb-true, ltb-false, eqb-true, eqb-false}
@@ -15,9 +15,9 @@ use Rattle.base.specs.Choice.{ifElse}
 use Rattle.base.proofs.Cases.{by-cases, false-true}
 use Rattle.objects_writer.specs.Writing.{lengthBytes, tagBytes, tlv}
 use Rattle.objects_reader.specs.Head.{headOf}
-use Rattle.objects_reader.specs.Form.{Form, done, plain, maybe, nested, isClean, fresh, spoilt, noted, onHead, ofSize, onValue, readForm, readBy}
-use Rattle.objects_reader.specs.Encoding.{Perhaps, absent, present, perhaps, Values, encode, SizedP, Sized, leaves, leafCount, deep, Follows, Proper}
-use Rattle.objects_reader.specs.Places.{Placed, Noted, Parsed}
+use Rattle.objects_reader.specs.Form.{Form, done, plain, maybe, nested, isClean, fresh, spoilt, noted, onHead, ofSize, onValue, readForm, readAll, readBy}
+use Rattle.objects_reader.specs.Encoding.{Perhaps, absent, present, perhaps, Values, encode, SizedP, Sized, leaves, placeOf, placesAt, leafCount, deep, Follows, Proper}
+use Rattle.objects_reader.specs.Places.{placePairs, Placed, Noted, Parsed}
 use Rattle.objects_reader.specs.declared.head.Head.{Head}
 use Rattle.objects_reader.specs.declared.head.Head.the-variants.{Body, NoTag, NoLength}
 use Rattle.objects_reader.specs.declared.reader.Fault.the-variants.{Tag, Length}
@@ -70,13 +70,36 @@ placed {s} {base} {a} w =
 placed-none : (s : List ℕ) → Placed s 0 0 []
 placed-none s = record { inside = omega arith; size = refl; is = refl }
 
-note-one : {s : List ℕ} {r : Reading} {vs : List (List ℕ)} {start len : ℕ} {v : List ℕ} → length vs < 8 → Noted s r vs → Placed s start len v → Noted s (noted r start len) (vs ++ (v ∷ []))
+-- a place that is noted behind the first k is none of them
+pairs-set : (a b : List ℕ) (n x y k : ℕ) → k ≤ n → placePairs (set a n x) (set b n y) k ≡ placePairs a b k
+unfolding placePairs
+pairs-set a b n x y zero h = refl
+pairs-set a b n x y (suc k) h =
+    simp (pairs-set a b n x y k (omega arith), getD-set-other a n k x 0 (omega arith), getD-set-other b n k y 0 (omega arith))
+
+-- r notes the values vs, and ps are all the places that it notes
+record NotedAt (s : List ℕ) (r : Reading) (vs : List (List ℕ)) (ps : List ℕ) : Type 0 where
+  is : Noted s r vs
+  at : placePairs (r .starts) (r .lens) (r .n) ≡ ps
+
+note-at : {s : List ℕ} {r : Reading} {vs : List (List ℕ)} {ps : List ℕ} (start len : ℕ) → length vs < 13 → NotedAt s r vs ps
+    → placePairs ((noted r start len) .starts) ((noted r start len) .lens) ((noted r start len) .n) ≡ ps ++ (start ∷ len ∷ [])
+unfolding placePairs
+note-at {s} {r} {vs} {ps} start len h m =
+    let c = m .is .count in
+    let a = m .is .starts in
+    let b = m .is .lens in
+    let e : r .n + 1 ≡ suc (r .n) = omega arith in
+    simp (lt-ltb (r .n) 13 (omega arith))
+    (rw (e, pairs-set (r .starts) (r .lens) (r .n) start len (r .n) (omega arith), getD-set-same (r .starts) (r .n) start 0 (omega arith), getD-set-same (r .lens) (r .n) len 0 (omega arith), m .at) refl)
+
+note-one : {s : List ℕ} {r : Reading} {vs : List (List ℕ)} {start len : ℕ} {v : List ℕ} → length vs < 13 → Noted s r vs → Placed s start len v → Noted s (noted r start len) (vs ++ (v ∷ []))
 note-one {s} {r} {vs} {start} {len} {v} h m p =
     let c = m .count in
     let a = m .starts in
     let b = m .lens in
     let e = length-append vs (v ∷ []) in
-    let t = lt-ltb (r .n) 8 (omega arith) in
+    let t = lt-ltb (r .n) 13 (omega arith) in
     record {
       clean = simp t (m .clean);
       count = simp t (omega arith);
@@ -92,57 +115,62 @@ note-one {s} {r} {vs} {start} {len} {v} h m p =
           rw n (simp (getD-set-same (r .starts) (r .n) start 0 (omega arith), getD-set-same (r .lens) (r .n) len 0 (omega arith)) (rw n′ (simp (getD-append-seam vs v [] []) p)))));
     }
 
+note-next : {s : List ℕ} {r : Reading} {vs : List (List ℕ)} {ps : List ℕ} {start len : ℕ} {v : List ℕ} → length vs < 13 → NotedAt s r vs ps → Placed s start len v
+    → NotedAt s (noted r start len) (vs ++ (v ∷ [])) (ps ++ (start ∷ len ∷ []))
+note-next {start = start} {len = len} h m p = record { is = note-one h (m .is) p; at = note-at start len h m }
+
 -- what is to be shown of a form's writing at a depth
 abbrev Complete : (f : Form) → Values f → ℕ → Type 0
-Complete f v d = (base : ℕ) (r : Reading) (s : List ℕ) (us : List (List ℕ)) → Stands s base (encode f v) → length us + length (leaves f v) ≤ 8 → Noted s r us
-    → Noted s (readForm f d base (encode f v) r) (us ++ leaves f v)
+Complete f v d = (base : ℕ) (r : Reading) (s : List ℕ) (us : List (List ℕ)) (ps : List ℕ) → Stands s base (encode f v) → length us + length (leaves f v) ≤ 13 → NotedAt s r us ps
+    → NotedAt s (readForm f d base (encode f v) r) (us ++ leaves f v) (ps ++ placesAt f v base)
 
 complete-value : (t lo hi : ℕ) (f : Form) (d : ℕ) (a : List ℕ) (v : Values f) → t < 65536 → 1 ≤ d → lo ≤ length a → length a ≤ hi → length (tlv t a ++ encode f v) < 65536
-    → Complete f v d → (base : ℕ) (r none : Reading) (s : List ℕ) (us : List (List ℕ)) → Stands s base (tlv t a ++ encode f v) → length us + suc (length (leaves f v)) ≤ 8 → Noted s r us
-    → Noted s (onValue t lo hi d base (tlv t a ++ encode f v) r (readForm f d) none) (us ++ (a ∷ leaves f v))
-complete-value t lo hi f d a v p q x y z ih base r none s us w h m =
+    → Complete f v d → (base : ℕ) (r none : Reading) (s : List ℕ) (us : List (List ℕ)) (ps : List ℕ) → Stands s base (tlv t a ++ encode f v) → length us + suc (length (leaves f v)) ≤ 13 → NotedAt s r us ps
+    → NotedAt s (onValue t lo hi d base (tlv t a ++ encode f v) r (readForm f d) none) (us ++ (a ∷ leaves f v)) (ps ++ (placeOf base t (present a) ++ placesAt f v (base + length (tlv t a))))
+complete-value t lo hi f d a v p q x y z ih base r none s us ps w h m =
     let e = encode f v in
     let l = length-append us (a ∷ []) in
-    let k = ih _ (noted r (base + headSize t (length a)) (length a)) s (us ++ (a ∷ [])) (stands-rest t a e w) (omega arith) (note-one (omega arith) m (placed (stands-value t a e w))) in
-    simp (ne-eqb d 0 (omega arith), object-head t a e p z, le-ltb (length a) lo x, le-ltb hi (length a) y, object-rest t a e) (rw append-assoc at k)
+    let k = ih _ (noted r (base + headSize t (length a)) (length a)) s (us ++ (a ∷ [])) (ps ++ placeOf base t (present a)) (stands-rest t a e w) (omega arith) (note-next (omega arith) m (placed (stands-value t a e w))) in
+    simp (ne-eqb d 0 (omega arith), object-head t a e p z, le-ltb (length a) lo x, le-ltb hi (length a) y, object-rest t a e, length-tlv t a) (simp append-assoc at k)
 
 complete-maybe : (t lo hi : ℕ) (f : Form) (d : ℕ) (o : Perhaps) (v : Values f) → t < 65536 → Follows t f → 1 ≤ d → SizedP lo hi o → length (perhaps t o ++ encode f v) < 65536
     → Complete f v d → Complete (maybe t lo hi f) (o, v) d
-unfolding readForm encode perhaps leaves
-complete-maybe t lo hi f d absent v p g q y z ih base r s us w h m =
+unfolding readForm encode perhaps leaves placesAt
+complete-maybe t lo hi f d absent v p g q y z ih base r s us ps w h m =
     let l = length-append us ([] ∷ []) in
-    let k = ih base (noted r 0 0) s (us ++ ([] ∷ [])) w (omega arith) (note-one (omega arith) m (placed-none s)) in
-    simp (ne-eqb d 0 (omega arith), follows-head t f v g) (rw append-assoc at k)
-complete-maybe t lo hi f d (present a) v p g q y z ih base r s us w h m =
-    complete-value t lo hi f d a v p q (y .0) (y .1) z ih base r _ s us w h m
+    let b : base + 0 ≡ base = omega arith in
+    let k = ih base (noted r 0 0) s (us ++ ([] ∷ [])) (ps ++ (0 ∷ 0 ∷ [])) w (omega arith) (note-next (omega arith) m (placed-none s)) in
+    simp (ne-eqb d 0 (omega arith), follows-head t f v g, b) (simp append-assoc at k)
+complete-maybe t lo hi f d (present a) v p g q y z ih base r s us ps w h m =
+    complete-value t lo hi f d a v p q (y .0) (y .1) z ih base r _ s us ps w h m
 
 complete : (f : Form) (v : Values f) (d : ℕ) → Proper f → deep f ≤ d → Sized f v → length (encode f v) < 65536 → Complete f v d
-unfolding readForm encode leaves Proper deep Sized
-complete done v d p q x z base r s us w h m = rw append-nil m
-complete (plain t lo hi f) v d p q x z base r s us w h m =
+unfolding readForm encode leaves placesAt Proper deep Sized
+complete done v d p q x z base r s us ps w h m = simp append-nil m
+complete (plain t lo hi f) v d p q x z base r s us ps w h m =
     let n = object-size t (v .0) (encode f (v .1)) in
-    complete-value t lo hi f d (v .0) (v .1) (p .0) (omega arith) (x .0) (x .1) z (complete f (v .1) d (p .1) (omega arith) (x .2) (omega arith)) base r _ s us w h m
-complete (maybe t lo hi f) v d p q x z base r s us w h m =
+    complete-value t lo hi f d (v .0) (v .1) (p .0) (omega arith) (x .0) (x .1) z (complete f (v .1) d (p .1) (omega arith) (x .2) (omega arith)) base r _ s us ps w h m
+complete (maybe t lo hi f) v d p q x z base r s us ps w h m =
     let n = length-append (perhaps t (v .0)) (encode f (v .1)) in
-    complete-maybe t lo hi f d (v .0) (v .1) (p .0) (p .1) (omega arith) (x .0) z (complete f (v .1) d (p .2) (omega arith) (x .1) (omega arith)) base r s us w h m
-complete (nested t g f) v d p q x z base r s us w h m =
+    complete-maybe t lo hi f d (v .0) (v .1) (p .0) (p .1) (omega arith) (x .0) z (complete f (v .1) d (p .2) (omega arith) (x .1) (omega arith)) base r s us ps w h m
+complete (nested t g f) v d p q x z base r s us ps w h m =
     let a = encode g (v .0) in
     let e = encode f (v .1) in
     let n = object-size t a e in
     let l = length-append (leaves g (v .0)) (leaves f (v .1)) in
     let l′ = length-append us (leaves g (v .0)) in
-    let i = complete g (v .0) (d - 1) (p .1) (omega arith) (x .0) (omega arith) (base + headSize t (length a)) r s us (stands-value t a e w) (omega arith) m in
-    let j = complete f (v .1) d (p .2) (omega arith) (x .1) (omega arith) (base + (headSize t (length a) + length a)) _ s (us ++ leaves g (v .0)) (stands-rest t a e w) (omega arith) i in
-    simp (ne-eqb d 0 (omega arith), object-head t a e (p .0) z, object-value t a e, object-rest t a e, i .clean) (rw append-assoc at j)
+    let i = complete g (v .0) (d - 1) (p .1) (omega arith) (x .0) (omega arith) (base + headSize t (length a)) r s us ps (stands-value t a e w) (omega arith) m in
+    let j = complete f (v .1) d (p .2) (omega arith) (x .1) (omega arith) (base + (headSize t (length a) + length a)) _ s (us ++ leaves g (v .0)) (ps ++ placesAt g (v .0) (base + headSize t (length a))) (stands-rest t a e w) (omega arith) i in
+    simp (ne-eqb d 0 (omega arith), object-head t a e (p .0) z, object-value t a e, object-rest t a e, i .is .clean, length-tlv t a) (simp append-assoc at j)
 
 -- ---- what is read clean is a writing
 
 -- parts of bytes are bytes
-bytes-drop : (n : ℕ) (l : List ℕ) → AllBytes l → AllBytes (drop n l)
+pub bytes-drop : (n : ℕ) (l : List ℕ) → AllBytes l → AllBytes (drop n l)
 unfolding AllBytes
 bytes-drop n l b i = rw getD-drop (b (n + i))
 
-bytes-take : (n : ℕ) (l : List ℕ) → AllBytes l → AllBytes (take n l)
+pub bytes-take : (n : ℕ) (l : List ℕ) → AllBytes l → AllBytes (take n l)
 unfolding AllBytes
 bytes-take n l b i =
     by-cases (ltb i n)
@@ -161,11 +189,11 @@ module _ (t : ℕ) (s : List ℕ) (k n : ℕ) (w : Begins (tagBytes t ++ lengthB
       w .bytes ∙ rw (value-size, ← drop-drop n k s, append-assoc (tagBytes t ++ lengthBytes n) (take n (drop k s)) (drop n (drop k s)), take-append-drop n (drop k s)) refl
 
 -- what a clean reading of s by f at a depth shows
-record Found (f : Form) (d : ℕ) (s : List ℕ) : Type 0 where
-  values : Values f
-  bytes : s ≡ encode f values
-  sized : Sized f values
-  within : deep f ≤ d
+pub record Found (f : Form) (d : ℕ) (s : List ℕ) : Type 0 where
+  pub values : Values f
+  pub bytes : s ≡ encode f values
+  pub sized : Sized f values
+  pub within : deep f ≤ d
 
 none-left : (s : List ℕ) → length s ≡ 0 → s ≡ []
 none-left [] e = refl
@@ -272,23 +300,39 @@ count-leaves (nested t g f) v = length-append (leaves g (v .0)) (leaves f (v .1)
 fresh-notes : (s : List ℕ) → Noted s fresh []
 fresh-notes s = record { clean = refl; count = refl; starts = refl; lens = refl; each = λ k h. absurd (omega arith) }
 
-module _ (f : Form) (p : Proper f) (few : leafCount f ≤ 8) where
-  -- every writing is read clean, and its values are noted
+module _ (f : Form) (p : Proper f) (few : leafCount f ≤ 13) where
+  -- every writing is read clean, and its values are noted, where they stand
+  module _ (q : deep f ≤ 4) (v : Values f) (x : Sized f v) (z : length (encode f v) < 65536) where
+    all-at : NotedAt (encode f v) (readAll f (encode f v)) (leaves f v) (placesAt f v 0)
+    unfolding placePairs
+    all-at =
+        let e = encode f v in
+        let n = count-leaves f v in
+        complete f v 4 p q x z 0 fresh e [] [] (record { pre = []; post = []; whole = sym (append-nil e); at = refl }) (omega arith) (record { is = fresh-notes e; at = refl })
+
+    pub all-complete : Noted (encode f v) (readAll f (encode f v)) (leaves f v)
+    all-complete = all-at .is
+
+    pub all-places : placePairs ((readAll f (encode f v)) .starts) ((readAll f (encode f v)) .lens) (leafCount f) ≡ placesAt f v 0
+    all-places =
+        let r = readAll f (encode f v) in
+        rw (← (all-at .is .count ∙ count-leaves f v)) (all-at .at)
+
   pub read-complete : deep f ≤ 4 → (v : Values f) → Sized f v → length (encode f v) < 65536 → Noted (encode f v) (readBy f (encode f v)) (leaves f v)
   unfolding readBy
-  read-complete q v x z =
-      let e = encode f v in
-      let n = count-leaves f v in
-      simp (le-ltb 65535 (length e) (omega arith))
-      (complete f v 4 p q x z 0 fresh e [] (record { pre = []; post = []; whole = sym (append-nil e); at = refl }) (omega arith) (fresh-notes e))
+  read-complete q v x z = simp (le-ltb 65535 (length (encode f v)) (omega arith)) (all-complete q v x z)
 
-  -- what is read clean is a writing, and its values are noted
+  -- what is read clean is a writing
+  pub all-sound : (s : List ℕ) → AllBytes s → isClean ((readAll f s) .fault) ≡ true → Found f 4 s
+  all-sound s b c = sound f 4 0 s fresh b c
+
+  -- of at most 65,535 bytes, and its values are noted
   pub read-sound : (s : List ℕ) → AllBytes s → isClean ((readBy f s) .fault) ≡ true → Parsed f s (readBy f s)
   unfolding readBy
   read-sound s b c =
       by-cases (ltb 65535 (length s)) (λ e. false-true (simp e at c))
       (λ e.
-      let o = sound f 4 0 s fresh b (simp e at c) in
+      let o = all-sound s b (simp e at c) in
       let l : length s < 65536 = let k = ltb-false 65535 (length s) e in omega arith in
       let k = ap length (o .bytes) in
       let n = read-complete (o .within) (o .values) (o .sized) (omega arith) in

@@ -20,7 +20,7 @@ use Rattle.objects_reader.proofs.Exact.{read-complete, read-sound}
 -- a form that the reader can go by
 pub record Readable (f : Form) : Type 0 where
   pub proper : Proper f
-  pub few : leafCount f ≤ 8
+  pub few : leafCount f ≤ 13
   pub flat : deep f ≤ 4
 
 module _ {A : Type 0} (f : Form) (s : List ℕ) (answer : Reading → A) (refused a : A) (e : readAs f s answer refused ≡ a) (n : refused ≡ a → ⊥) where

@@ -1,5 +1,5 @@
 -- Every place that a reading notes lies within the data, whatever the data and the form. Read before: specs/Places.antt. Exports
--- `read-within`.
+-- `zeros`, `all-within` and `read-within`.
 use Prim.Native.Nat.{ℕ, zero, suc, _+_, _-_, _≤_}
 use mathlib.Core.Path.{_≡_, refl}
 use mathlib.Core.List.{List}
@@ -10,7 +10,7 @@ use lib.Dec.{ltb, eqb}
 use borrow.Author.Tests.{ltb-true, eqb-true, eqb-false}
 use Rattle.base.proofs.Cases.{by-cases, ifElse-ind}
 use Rattle.objects_reader.specs.Head.{headOf}
-use Rattle.objects_reader.specs.Form.{Form, done, plain, maybe, nested, isClean, fresh, spoilt, noted, onHead, onValue, readForm, readBy}
+use Rattle.objects_reader.specs.Form.{Form, done, plain, maybe, nested, isClean, fresh, spoilt, noted, onHead, onValue, readForm, readAll, readBy}
 use Rattle.objects_reader.specs.Places.{Within}
 use Rattle.objects_reader.specs.declared.head.Head.{Head}
 use Rattle.objects_reader.specs.declared.head.Head.the-variants.{Body, NoTag, NoLength}
@@ -19,13 +19,13 @@ use Rattle.objects_reader.specs.declared.reader.Fault.the-variants.{Leng
 use Rattle.objects_reader.specs.declared.reader.Reading.{Reading}
 use Rattle.objects_reader.proofs.Lengths.{HeadIn, headOf-in}
 
-zeros : (n k : ℕ) → _≡_ {A = ℕ} (getD (replicate n 0) k 0) 0
+pub zeros : (n k : ℕ) → _≡_ {A = ℕ} (getD (replicate n 0) k 0) 0
 zeros zero k = refl
 zeros (suc n) zero = refl
 zeros (suc n) (suc k) = zeros n k
 
 fresh-within : (n : ℕ) → Within n fresh
-fresh-within n = record { starts = refl; lens = refl; each = λ k. rw (zeros 8 k) (omega arith) }
+fresh-within n = record { starts = refl; lens = refl; each = λ k. rw (zeros 13 k) (omega arith) }
 
 spoilt-within : (n : ℕ) (r : Reading) (f : Fault) (at : ℕ) → Within n r → Within n (spoilt r f at)
 spoilt-within n r f at w = record { starts = w .starts; lens = w .lens; each = w .each }
@@ -34,8 +34,8 @@ noted-within : (n : ℕ) (r : Reading) (start len : ℕ) → start + len ≤ n �
 noted-within n r start len h w =
     let a = w .starts in
     let b = w .lens in
-    ifElse-ind (Within n) (ltb (r .n) 8)
-    (λ e. let l = ltb-true (r .n) 8 e in record {
+    ifElse-ind (Within n) (ltb (r .n) 13)
+    (λ e. let l = ltb-true (r .n) 13 e in record {
       starts = simp length-set a;
       lens = simp length-set b;
       each = λ k. by-cases (eqb k (r .n))
@@ -82,8 +82,10 @@ form-within n (nested t g f) d base s r h w =
     ifElse-ind (Within n) (isClean (q .fault)) (λ c. form-within n f d (base + (start + len)) (drop (start + len) s) q (let l = length-drop (start + len) s in omega arith) v) (λ c. v))
     (spoilt-within n r _ base w) (spoilt-within n r _ base w))
 
+pub all-within : (f : Form) (s : List ℕ) → Within (length s) (readAll f s)
+all-within f s = form-within (length s) f 4 0 s fresh (omega arith) (fresh-within (length s))
+
 pub read-within : (f : Form) (s : List ℕ) → Within (length s) (readBy f s)
 unfolding readBy
 read-within f s =
-    ifElse-ind (Within (length s)) (ltb 65535 (length s)) (λ e. spoilt-within _ fresh _ 0 (fresh-within (length s)))
-    (λ e. form-within (length s) f 4 0 s fresh (omega arith) (fresh-within (length s)))
+    ifElse-ind (Within (length s)) (ltb 65535 (length s)) (λ e. spoilt-within _ fresh _ 0 (fresh-within (length s))) (λ e. all-within f s)

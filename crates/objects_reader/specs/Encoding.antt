@@ -1,8 +1,8 @@
 -- How the objects of a form are written, and which writings the form allows. The readable side of the reader: `Parsed` (Places.antt) says
 -- by these what a reading without a fault has read.
 --
--- `maybe`, `Perhaps`, `perhaps`, `SizedP`, `valueOf`, `apart` and `Follows` are for objects that may be absent. No command has one yet;
--- a later request, which reads whole records, will.
+-- `maybe`, `Perhaps`, `perhaps`, `SizedP`, `valueOf`, `apart` and `Follows` are for objects that may be absent. A stamp has some; no command
+-- does.
 use Prim.Native.Nat.{ℕ, suc, _+_, _/_, _≤_, _<_, max}
 use mathlib.Core.Path.{_≡_}
 use mathlib.Core.List.{List, [], _∷_, _++_}
@@ -10,7 +10,7 @@ use mathlib.Core.Bool.{Bool, true, not}
 use lib.ListN.{length}
 use lib.Dec.{ltb, eqb}
 use Rattle.base.specs.Choice.{ifElse}
-use Rattle.objects_writer.specs.Writing.{tlv}
+use Rattle.objects_writer.specs.Writing.{tagBytes, lengthBytes, tlv}
 use Rattle.objects_reader.specs.Form.{Form, done, plain, maybe, nested}
 
 -- a value that may be absent [D10]
@@ -60,6 +60,20 @@ leaves done v = []
 leaves (plain t lo hi f) v = v .0 ∷ leaves f (v .1)
 leaves (maybe t lo hi f) v = valueOf (v .0) ∷ leaves f (v .1)
 leaves (nested t g f) v = leaves g (v .0) ++ leaves f (v .1)
+
+-- where a value stands whose object begins at `at`: its first byte, and how many it has; both 0 where it is absent [D9] [D10]
+abbrev pub placeOf : (at t : ℕ) → Perhaps → List ℕ
+placeOf at t absent = 0 ∷ 0 ∷ []
+placeOf at t (present a) = (at + (length (tagBytes t) + length (lengthBytes (length a)))) ∷ length a ∷ []
+
+-- where the plain values stand when the form's objects begin at `at`: two numbers for each [D9] [D11]
+unfoldable pub placesAt : (f : Form) → Values f → (at : ℕ) → List ℕ
+placesAt done v at = []
+placesAt (plain t lo hi f) v at = placeOf at t (present (v .0)) ++ placesAt f (v .1) (at + length (tlv t (v .0)))
+placesAt (maybe t lo hi f) v at = placeOf at t (v .0) ++ placesAt f (v .1) (at + length (perhaps t (v .0)))
+placesAt (nested t g f) v at =
+    let a = encode g (v .0) in
+    placesAt g (v .0) (at + (length (tagBytes t) + length (lengthBytes (length a)))) ++ placesAt f (v .1) (at + length (tlv t a))
 
 -- how many they are [D9]
 unfoldable pub leafCount : Form → ℕ

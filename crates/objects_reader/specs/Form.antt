@@ -17,7 +17,7 @@ use Rattle.objects_reader.specs.declared.reader.Reading.{Reading}
 use Rattle.objects_reader.specs.Head.{headOf}
 
 -- Objects that stand one behind the other, in this order and with nothing else between or behind them: none; a plain one of this tag, with
--- a value of lo to hi bytes, and what follows it; such a one that may be absent (`maybe`: no command has one yet, a later request will);
+-- a value of lo to hi bytes, and what follows it; such a one that may be absent (`maybe`: a stamp has some);
 -- or one of this tag whose value is objects again, and what follows it. [D3] [D11]
 pub data Form : Type 0 where
   done : Form
@@ -50,7 +50,7 @@ formOf rows = formIn (length rows) rows
 
 -- ---- a reading
 
--- the number of a fault: another tag or none, a length that does not fit, too deep; 3 is kept for a value that is not the one stated [D9] [C2]
+-- the number of a fault: another tag or none, a length that does not fit, too deep; 3 is what a stamp has for a content (TR9) [D9] [C2]
 abbrev pub faultNumber : Fault → ℕ
 faultNumber Clean = 0
 faultNumber Tag = 1
@@ -63,17 +63,17 @@ isClean f = eqb (faultNumber f) 0
 
 -- before anything is read [D9]
 abbrev pub fresh : Reading
-fresh = record { fault = Clean; at = 0; n = 0; starts = replicate 8 0; lens = replicate 8 0 }
+fresh = record { fault = Clean; at = 0; n = 0; starts = replicate 13 0; lens = replicate 13 0 }
 
 -- the reading with a fault at a place [D9]
 abbrev pub spoilt : Reading → Fault → ℕ → Reading
 spoilt r f at = record { fault = f; at = at; n = r .n; starts = r .starts; lens = r .lens }
 
--- `noted r start len` is r with the place (start, len) behind its others. Eight are kept, more than any command's data has values;
--- a ninth is dropped. [D9]
+-- `noted r start len` is r with the place (start, len) behind its others. Thirteen are kept, as many as a stamp has fields;
+-- more are dropped. [D9]
 abbrev pub noted : Reading → ℕ → ℕ → Reading
 noted r start len =
-    ifElse (ltb (r .n) 8)
+    ifElse (ltb (r .n) 13)
     (record { fault = r .fault; at = r .at; n = r .n + 1; starts = set (r .starts) (r .n) start; lens = set (r .lens) (r .n) len })
     r
 
@@ -107,9 +107,13 @@ readForm (nested tag g f) d base s r =
     ifElse (isClean (q .fault)) (readForm f d (base + (start + len)) (drop (start + len) s) q) q)
     (spoilt r Tag base) (spoilt r Length base))
 
--- the reading of whole data: four objects deep at most; data of more than 65,535 bytes is refused [D4] [D8]
+-- the reading of whole data, four objects deep at most [D4]
+abbrev pub readAll : Form → List ℕ → Reading
+readAll f s = readForm f 4 0 s fresh
+
+-- the reading of a command's data, of which more than 65,535 bytes are refused [D8]
 unfoldable pub readBy : Form → List ℕ → Reading
-readBy f s = let q = readForm f 4 0 s fresh in ifElse (ltb 65535 (length s)) (spoilt fresh Length 0) q
+readBy f s = let q = readAll f s in ifElse (ltb 65535 (length s)) (spoilt fresh Length 0) q
 
 -- the same by rows [D11]
 abbrev pub readOf : List (List ℕ) → List ℕ → Reading

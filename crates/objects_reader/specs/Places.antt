@@ -1,7 +1,7 @@
 -- The places that a reading notes, and what stands there.
-use Prim.Native.Nat.{ℕ, _+_, _≤_, _<_}
+use Prim.Native.Nat.{ℕ, zero, suc, _+_, _≤_, _<_}
 use mathlib.Core.Path.{_≡_}
-use mathlib.Core.List.{List, []}
+use mathlib.Core.List.{List, [], _∷_, _++_}
 use mathlib.Core.Bool.{true}
 use lib.ListN.{length, take, getD}
 use Rattle.base.specs.Choice.{ifElse}
@@ -23,10 +23,15 @@ numberAt s r k = numberIn (part s (getD (r .starts) k 0) (getD (r .lens) k 0))
 abbrev pub readAs : {A : Type 0} → Form → List ℕ → (Reading → A) → A → A
 readAs f s answer refused = let r = readBy f s in ifElse (isClean (r .fault)) (answer r) refused
 
+-- the first n places as one list: of each the start and the length [D9]
+unfoldable pub placePairs : (starts lens : List ℕ) → ℕ → List ℕ
+placePairs starts lens zero = []
+placePairs starts lens (suc n) = placePairs starts lens n ++ (getD starts n 0 ∷ getD lens n 0 ∷ [])
+
 -- each place that r notes lies within n bytes [D9]
 pub record Within (n : ℕ) (r : Reading) : Type 0 where
-  pub starts : length (r .starts) ≡ 8
-  pub lens : length (r .lens) ≡ 8
+  pub starts : length (r .starts) ≡ 13
+  pub lens : length (r .lens) ≡ 13
   pub each : (k : ℕ) → getD (r .starts) k 0 + getD (r .lens) k 0 ≤ n
 
 -- the len bytes of s from start on are v [D11]
@@ -39,8 +44,8 @@ pub record Placed (s : List ℕ) (start len : ℕ) (v : List ℕ) : Type 0 where
 pub record Noted (s : List ℕ) (r : Reading) (vs : List (List ℕ)) : Type 0 where
   pub clean : isClean (r .fault) ≡ true
   pub count : r .n ≡ length vs
-  pub starts : length (r .starts) ≡ 8
-  pub lens : length (r .lens) ≡ 8
+  pub starts : length (r .starts) ≡ 13
+  pub lens : length (r .lens) ≡ 13
   pub each : (k : ℕ) → k < length vs → Placed s (getD (r .starts) k 0) (getD (r .lens) k 0) (getD vs k [])
 
 -- s is a writing of the form's objects, of the sizes that it says, and r notes each value [D11]

@@ -3,7 +3,7 @@
 ghost use mathlib.Core.Path.{_≡_};
 ghost use Prim.Native.Nat.{_+_, _≤_, _<_};
 ghost use lib.ListN.{length};
-ghost use Rattle.objects_reader.specs.Form.{formOf, cutOf, isClean, spoilt, noted, readForm, readOf};
+ghost use Rattle.objects_reader.specs.Form.{formOf, cutOf, isClean, spoilt, noted, readForm, readAll, readOf};
 ghost use Rattle.objects_reader.specs.Loops.{valueStep, missingOf, firstObject};
 use super::head::Head;
 use super::head::header;
@@ -27,14 +27,13 @@ pub enum Step {
     Absent,
 }
 
-// What a reading found: the first fault with its place, and the places of the values read so far. The places are small numbers,
-// because a reading is handed down by value with each object inside another. [D9]
+// What a reading found: the first fault with its place, and the places of the values read so far. [D9]
 pub struct Reading {
     pub fault: Fault,
     pub at: usize,
     pub n: usize,
-    pub starts: [u16; 8],
-    pub lens: [u16; 8],
+    pub starts: [usize; 13],
+    pub lens: [usize; 13],
 }
 
 // The reading with a fault noted.
@@ -54,14 +53,13 @@ fn spoil(r: Reading, fault: Fault, at: usize) -> Reading
 
 // The reading with the place of one more value, where there is room for it.
 fn note(r: Reading, start: usize, len: usize) -> Reading
-    requires { ⌜ (start < 65536) × (len < 65536) ⌝ }
     ensures { λ q. ⌜ q ≡ noted r start len ⌝ }
 {
     let n = r.n;
     let mut q = r;
-    if n < 8 {
-        q.starts[n] = start as u16;
-        q.lens[n] = len as u16;
+    if n < 13 {
+        q.starts[n] = start;
+        q.lens[n] = len;
         q.n = n + 1;
     }
     q
@@ -147,7 +145,7 @@ fn first(s: &[u8], form: &[[u16; 5]], depth: usize) -> Step
 // Reads s, the value of an object or the whole data, by the rows of its form: a turn for each object of this level, and a call for
 // what stands inside one, with one less of the remaining depth. base is where s starts in the data.
 fn objects(s: &[u8], form: &[[u16; 5]], base: usize, depth: usize, r: Reading) -> Reading
-    requires { ⌜ base + length (now s) < 65536 ⌝ }
+    requires { ⌜ base + length (now s) < 18446744073709551616 ⌝ }
     ensures { λ q. ⌜ q ≡ readForm (formOf (now (form .entry))) depth base (now (s .entry)) r ⌝ }
 {
     let mut q = r;
@@ -183,19 +181,32 @@ fn objects(s: &[u8], form: &[[u16; 5]], base: usize, depth: usize, r: Reading) -
     }
 }
 
-// Reads data of at most 65,535 bytes by the rows of its form, four objects deep at most.
-pub fn read(s: &[u8], form: &[[u16; 5]]) -> Reading
-    ensures { λ q. ⌜ q ≡ readOf (now (form .entry)) (now (s .entry)) ⌝ }
+// Reads data by the rows of its form, four objects deep at most.
+pub fn read_all(s: &[u8], form: &[[u16; 5]]) -> Reading
+    ensures { λ q. ⌜ q ≡ readAll (formOf (now (form .entry))) (now (s .entry)) ⌝ }
 {
     let r = Reading {
         fault: Fault::Clean,
         at: 0,
         n: 0,
-        starts: [0; 8],
-        lens: [0; 8],
+        starts: [0; 13],
+        lens: [0; 13],
     };
-    if 65535 < s.len() {
-        return spoil(r, Fault::Length, 0);
-    }
     objects(s, form, 0, 4, r)
+}
+
+// The same for the data of a command, which has at most 65,535 bytes.
+pub fn read(s: &[u8], form: &[[u16; 5]]) -> Reading
+    ensures { λ q. ⌜ q ≡ readOf (now (form .entry)) (now (s .entry)) ⌝ }
+{
+    if 65535 < s.len() {
+        return Reading {
+            fault: Fault::Length,
+            at: 0,
+            n: 0,
+            starts: [0; 13],
+            lens: [0; 13],
+        };
+    }
+    read_all(s, form)
 }

@@ -8,7 +8,6 @@ ghost use Rattle.objects_templates.specs.Search.{askOf, readSearch};
 ghost use Rattle.objects_templates.specs.Update.{readUpdate};
 ghost use Rattle.objects_templates.specs.Reference.{readReference};
 use objects_reader::number::number;
-use objects_reader::number::wide;
 use objects_reader::reader::Reading;
 use objects_reader::reader::clean;
 use objects_reader::reader::read;
@@ -78,8 +77,8 @@ fn span_at(r: Reading, k: usize) -> Span
     let starts = r.starts;
     let lens = r.lens;
     Span {
-        at: wide(starts[k]),
-        len: wide(lens[k]),
+        at: starts[k],
+        len: lens[k],
     }
 }
 

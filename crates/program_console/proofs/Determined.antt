@@ -23,6 +23,10 @@ use Rattle.program_console.proofs.result.certificate_place.Kinds as cer
 use Rattle.program_console.proofs.result.certificate_place.Reads as certificate-place-reads
 use Rattle.program_console.proofs.result.certificate_length.Kinds as certificate-length-kinds
 use Rattle.program_console.proofs.result.certificate_length.Reads as certificate-length-reads
+use Rattle.program_console.proofs.result.stamp_reason.Kinds as stamp-reason-kinds
+use Rattle.program_console.proofs.result.stamp_reason.Reads as stamp-reason-reads
+use Rattle.program_console.proofs.result.stamp_offset.Kinds as stamp-offset-kinds
+use Rattle.program_console.proofs.result.stamp_offset.Reads as stamp-offset-reads
 
 pub room-determined : Determined room-kinds.ps room-kinds.r room-reads.Post
 room-determined κs a e f p q i = ((p ∙ sym q) i, e .1)
@@ -56,3 +60,9 @@ certificate-place-determined κs a e f p q i = ((p ∙ sym q) i, e .1)
 
 pub certificate-length-determined : Determined certificate-length-kinds.ps certificate-length-kinds.r certificate-length-reads.Post
 certificate-length-determined κs a e f p q i = ((p ∙ sym q) i, e .1)
+
+pub stamp-reason-determined : Determined stamp-reason-kinds.ps stamp-reason-kinds.r stamp-reason-reads.Post
+stamp-reason-determined κs a e f p q i = ((p ∙ sym q) i, e .1)
+
+pub stamp-offset-determined : Determined stamp-offset-kinds.ps stamp-offset-kinds.r stamp-offset-reads.Post
+stamp-offset-determined κs a e f p q i = ((p ∙ sym q) i, e .1)

@@ -1,6 +1,6 @@
 // The results of the functions for C, taken apart: from the low end 16 bits of status and 16 of length, or 32 of a moved card's length, or 10 of
 // a certificate's length, 18 of its place and 4 that say whose it is; and then the number of the refusal. The result of a file has 32 bits
-// of length, and its place.
+// of length, and its place; that of a stamp 32 bits of offset, and the reason of its fault.
 ghost use mathlib.Core.Path.{_≡_};
 ghost use Prim.Native.Nat.{_/_, _%_};
 
@@ -65,4 +65,18 @@ pub fn certificate_length(result: u64) -> usize
     ensures { λ r. ⌜ r ≡ result % 1024 ⌝ }
 {
     (result % 1024) as usize
+}
+
+// Why a record is no stamp: 1 tag, 2 length, 3 content; 0 where it is one.
+pub fn stamp_reason(result: u64) -> u64
+    ensures { λ r. ⌜ r ≡ result / 4294967296 ⌝ }
+{
+    result / 4294967296
+}
+
+// Where its first fault is.
+pub fn stamp_offset(result: u64) -> usize
+    ensures { λ r. ⌜ r ≡ result % 4294967296 ⌝ }
+{
+    (result % 4294967296) as usize
 }

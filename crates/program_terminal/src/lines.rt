@@ -7,6 +7,7 @@ use crate::listing;
 use crate::moves;
 use crate::place;
 use crate::rights;
+use crate::stamps;
 use crate::status;
 use crate::status::Ended;
 use crate::text;
@@ -155,6 +156,9 @@ fn line(s: &[u8], image: &mut [u8], kept: &mut [u8], session: &mut [u8], how: Ho
     }
     if text::is(word, b"certificate") {
         return ended(s, certificates::line(rest, image));
+    }
+    if text::is(word, b"stamp") {
+        return ended(s, stamps::line(rest, image));
     }
     if s.len() <= text::next(s, 0) {
         if told(word, image, session) {

@@ -13,6 +13,7 @@ mod listing;
 mod moves;
 mod place;
 mod rights;
+mod stamps;
 mod status;
 mod text;
 

@@ -18,4 +18,5 @@ pub mod Calling
 pub mod Bodies
 pub mod Certificates
 pub mod Index
+pub mod Stamps
 pub mod Promises

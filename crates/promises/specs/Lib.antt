@@ -9,3 +9,4 @@ pub mod Linked
 pub mod Bodies
 pub mod Certificates
 pub mod Index
+pub mod Stamps

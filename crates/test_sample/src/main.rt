@@ -18,6 +18,8 @@
 //    the body (4 bytes, little-endian), its bytes. To extend, the first number is how many places the list holds. The line, where it is built or
 //    extended: the result, a hash of the list. Where it is read, a line for each number from the first to the last: the result, and the
 //    record that the store's function returns (`-` where that has no byte).
+// 9, a stamp: how many entries the list has (2 bytes, little-endian), the length of the record (4 bytes, little-endian), its bytes. The list is
+//    filled with A5A5A5A5. The line: the result, a hash of the list.
 use program_console::result;
 use store_records::little::read16;
 use store_records::little::read32;
@@ -369,6 +371,42 @@ fn index(s: &[u8], image: usize, session: usize) -> Turn {
     }
 }
 
+// A list for the places of a stamp.
+fn filled_places() -> [u32; 512]
+    ensures { λ r. ⌜ 512 ≡ length r ⌝ }
+{
+    [0xA5A5A5A5; 512]
+}
+
+// The line of a stamp.
+fn tell_stamp(record: &[u8], places: &mut [u32]) {
+    let r = malquindo::malquindo_stamp_read(record, places);
+    tell_places(r, places);
+}
+
+// A stamp.
+fn stamp(s: &[u8], image: usize, session: usize) -> Turn {
+    let n = read16(s, 0);
+    let m = read32(s, 2);
+    let record = base::part(s, 6, m);
+    let mut places = filled_places();
+    if s.len() < 6 {
+        return torn(s);
+    }
+    if record.len() < m {
+        return torn(s);
+    }
+    if places.len() < n {
+        return torn(s);
+    }
+    tell_stamp(record, &mut places[..n]);
+    Turn {
+        left: base::natural::saturating_sub(s.len(), 6 + m),
+        image,
+        session,
+    }
+}
+
 // Answers the case that s starts with.
 fn case(s: &[u8], card: &mut [u8], i: usize, kept: &mut [u8], n: usize) -> Turn {
     let rest = base::part(s, 1, s.len());
@@ -381,6 +419,7 @@ fn case(s: &[u8], card: &mut [u8], i: usize, kept: &mut [u8], n: usize) -> Turn 
         6 => file(rest, card, i, n),
         7 => certificates(rest, i, n),
         8 => index(rest, i, n),
+        9 => stamp(rest, i, n),
         _ => torn(s),
     }
 }

@@ -1,8 +1,9 @@
 //! The calls to time: card, session and command; card and rooms; bodies of certificates; a body
-//! with an index.
+//! with an index; stamps.
 
 use compare::make::{self, Apdu, LONGEST_IMAGE, RULES};
 use compare::random::Random;
+use compare::stamp::{self, Draft};
 use compare::view;
 
 pub const LONGEST_RECORD: usize = 391;
@@ -339,6 +340,41 @@ pub fn indexed(number: usize) -> Indexed {
         number,
         read_record: read_one(number, MOST_RECORDS),
     }
+}
+
+/// A record to read as a stamp.
+pub struct Stamp {
+    pub name: String,
+    pub held: String,
+    pub record: Vec<u8>,
+    /// What reading it gives.
+    pub result: u64,
+}
+
+/// The longest stamp, the shortest, and one that is wrong in its last field.
+pub fn stamps() -> [Stamp; 3] {
+    let longest = Draft::new(&stamp::longest()).bytes();
+    let shortest = Draft::new(&stamp::shortest(|_| false)).bytes();
+    // Reference 00: a wrong content in an object of four bytes.
+    let mut wrong = longest.clone();
+    wrong[LONGEST_RECORD - 1] = 0x00;
+    let case = |name: &str, held: &str, record, result| Stamp {
+        name: name.to_string(),
+        held: held.to_string(),
+        record,
+        result,
+    };
+    let last = LONGEST_RECORD as u64 - 4;
+    [
+        case("the longest stamp", "391 bytes, 13 fields", longest, 0),
+        case("the shortest stamp", "45 bytes, 8 fields", shortest, 0),
+        case(
+            "a fault in the last field",
+            "the longest stamp, reference 00",
+            wrong,
+            3 << 32 | last,
+        ),
+    ]
 }
 
 /// A search with a long string, for the stack; one of 980 bytes is about the longest there is.

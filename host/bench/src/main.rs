@@ -19,6 +19,7 @@ fn main() {
     move_times();
     certificate_times();
     index_times();
+    stamp_times();
     stack_use();
 }
 
@@ -206,6 +207,16 @@ fn index_times() {
         times.walk / 1_000.0,
         times.proved / times.walk
     );
+}
+
+/// The longest stamp, the shortest, and one that is wrong in its last field.
+fn stamp_times() {
+    println!("\n| row | what the buffers held | proved (µs) | reference (µs) | ratio |");
+    println!("|---|---|---|---|---|");
+    for case in cases::stamps() {
+        let times = time::measure_stamp(&case);
+        print_times(&case.name, &case.held, times);
+    }
 }
 
 fn stack_use() {

@@ -1,7 +1,8 @@
 //! Timing one call of each implementation, in turns.
 
-use crate::cases::{Case, Certificate, Indexed, Move, LONGEST_RECORD, MOST_RECORDS};
+use crate::cases::{Case, Certificate, Indexed, Move, Stamp, LONGEST_RECORD, MOST_RECORDS};
 use compare::sides::{IndexBuild, Machine, PROVED, REFERENCE};
+use compare::stamp::NUMBERS;
 use malquindo::Index;
 use std::hint::black_box;
 use std::time::{Duration, Instant};
@@ -75,6 +76,14 @@ pub fn measure_move(case: &Move) -> MoveTimes {
 pub fn measure_certificate(case: &Certificate) -> Times {
     let mut proved = Bench::new(FindCertificate::new(case, &PROVED), false);
     let mut reference = Bench::new(FindCertificate::new(case, &REFERENCE), false);
+    let [proved, reference] = in_turns([&mut proved, &mut reference], BUDGET);
+    Times { proved, reference }
+}
+
+/// Both implementations on the same record, alternating.
+pub fn measure_stamp(case: &Stamp) -> Times {
+    let mut proved = Bench::new(ReadStamp::new(case, &PROVED), false);
+    let mut reference = Bench::new(ReadStamp::new(case, &REFERENCE), false);
     let [proved, reference] = in_turns([&mut proved, &mut reference], BUDGET);
     Times { proved, reference }
 }
@@ -229,6 +238,33 @@ impl Work for FindCertificate<'_> {
     fn call(&mut self) -> u64 {
         let Certificate { card, desk, .. } = self.case;
         (self.machine.certificate)(card, desk, self.case.reference)
+    }
+}
+
+/// One implementation's reading of a stamp, into a list that is there.
+struct ReadStamp<'a> {
+    case: &'a Stamp,
+    machine: &'a Machine,
+    places: [u32; NUMBERS],
+}
+
+impl<'a> ReadStamp<'a> {
+    fn new(case: &'a Stamp, machine: &'a Machine) -> Self {
+        let mut work = Self {
+            case,
+            machine,
+            places: [0; NUMBERS],
+        };
+        assert_eq!(work.call(), case.result, "{}", case.name);
+        work
+    }
+}
+
+impl Work for ReadStamp<'_> {
+    fn reset(&mut self) {}
+
+    fn call(&mut self) -> u64 {
+        (self.machine.stamp_read)(black_box(&self.case.record), &mut self.places)
     }
 }
 

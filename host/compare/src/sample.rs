@@ -4,6 +4,7 @@
 use crate::card::Size;
 use crate::hex::{fnv, fnv_of_places, hex};
 use crate::sequence::Sequence;
+use crate::stamp_scene;
 use crate::step::{IndexCall, State, Step};
 use crate::tally::Tally;
 use std::ops::RangeInclusive;
@@ -11,7 +12,7 @@ use std::ops::RangeInclusive;
 /// The seed of the sample that is kept as data.
 pub const SEED: u64 = 93_053;
 /// The most bytes the sample may have.
-pub const LONGEST: usize = 340_000;
+pub const LONGEST: usize = 410_000;
 /// What the response buffer holds before each command, and the target before each move.
 const FILL: u8 = 0xA5;
 
@@ -78,6 +79,7 @@ fn one_sequence(seed: u64, number: u64) -> (Vec<u8>, Vec<Lines>) {
                 last,
             } => find_certificates(&mut state, card, desk, *first..=*last),
             Step::Index { call, places, body } => index(&mut state, *call, places, body),
+            Step::Stamp { record, entries } => read_stamp(&mut state, record, *entries),
         };
         let results = state.results(&step).to_vec();
         lines.push((text, step, results));
@@ -165,8 +167,16 @@ fn read(state: &mut State, body: &[u8], numbers: RangeInclusive<usize>) -> Strin
     })
 }
 
-/// A case: 1 image, 2 session, 3 open, 4 command, 5 move, 6 file, 7 certificates, 8 an index;
-/// numbers are little-endian.
+/// Reads a stamp and says what the list is then.
+fn read_stamp(state: &mut State, record: &[u8], entries: usize) -> String {
+    state.places = vec![stamp_scene::FILL; entries];
+    let result = reference::stamp::read_call(record, &mut state.places);
+    state.answers = vec![result];
+    format!("{result} {}\n", fnv_of_places(&state.places))
+}
+
+/// A case: 1 image, 2 session, 3 open, 4 command, 5 move, 6 file, 7 certificates, 8 an index,
+/// 9 a stamp; numbers are little-endian.
 fn encode(step: &Step, bytes: &mut Vec<u8>) {
     match step {
         Step::Image(image) => {
@@ -230,6 +240,12 @@ fn encode(step: &Step, bytes: &mut Vec<u8>) {
             bytes.extend(places.iter().flat_map(|place| place.to_le_bytes()));
             bytes.extend((body.len() as u32).to_le_bytes());
             bytes.extend(body);
+        }
+        Step::Stamp { record, entries } => {
+            bytes.push(9);
+            bytes.extend((*entries as u16).to_le_bytes());
+            bytes.extend((record.len() as u32).to_le_bytes());
+            bytes.extend(record);
         }
     }
 }

@@ -1,19 +1,20 @@
 //! The calls that every run begins with: a card with the travel application, moved to larger
 //! rooms and on to others, with commands before and behind each move, and each refusal of a move;
 //! then files to find, and certificates to find in bodies of each sort; then an index, beside a
-//! card and alone.
+//! card and alone; then stamps.
 
 use crate::hex::hex;
 use crate::index_scene::{self, built, extended, not_extended, read};
 use crate::make::{self, Apdu, LONGEST_IMAGE, RIGHTS_LEN, SESSION_LEN, SHORTEST_RESPONSE};
+use crate::stamp_scene;
 use crate::step::Step;
 use std::ops::RangeInclusive;
 
 /// A step and what comes of it: a command's answer in hexadecimal; `refusal` and its number, or
 /// how many bytes the new image has; how many bytes a file has and where, or `none`; of each
 /// certificate the body that has it, its place there and its bytes, or `missing`, or `refusal 9`,
-/// with a comma between them; of an index what [`index_scene`] says; nothing for what is no call,
-/// and for the opening.
+/// with a comma between them; of an index what [`index_scene`] says, and of a stamp what
+/// [`stamp_scene`] says; nothing for what is no call, and for the opening.
 pub type Line = (Step, String);
 
 const ENTRY: u16 = 0x0101;
@@ -48,6 +49,7 @@ pub fn lines() -> Vec<Line> {
         bodies_at_the_border(),
         an_index_beside_a_card(),
         index_scene::lines(),
+        stamp_scene::lines(),
     ]
     .concat()
 }

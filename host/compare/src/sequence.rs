@@ -11,6 +11,8 @@ use crate::moving;
 use crate::random::Random;
 use crate::rights;
 use crate::scene;
+use crate::stamp_scene;
+use crate::stamps;
 use crate::step::{State, Step};
 use crate::view::View;
 use std::collections::VecDeque;
@@ -29,10 +31,14 @@ pub struct Sequence {
     moved: bool,
     /// The index that is kept beside the card, in a sequence that does nothing else.
     follow: Option<Follow>,
+    /// How many stamps are left, in a sequence that does nothing else.
+    stamps_left: usize,
 }
 
 /// One sequence in so many keeps an index beside its card.
 const FOLLOWS: u64 = 10;
+/// How many stamps a sequence of stamps reads.
+const STAMPS: usize = 40;
 
 impl Sequence {
     /// The sequence of this number in the run of this seed; each seed's first is the scene.
@@ -42,6 +48,21 @@ impl Sequence {
             0 => Self::scene(random, size),
             _ if number % FOLLOWS == 1 => Self::beside_an_index(random, size),
             _ => Self::on_a_card(random, size),
+        }
+    }
+
+    /// The sequence of this number in a run of stamps alone; each seed's first is their scene.
+    pub fn of_stamps(seed: u64, number: u64) -> Self {
+        let random = Random::part(seed, number);
+        match number {
+            0 => {
+                let steps = stamp_scene::lines().into_iter().map(|(step, _)| step);
+                Self::of_steps(random, Size::Any, steps.collect())
+            }
+            _ => Self {
+                stamps_left: STAMPS,
+                ..Self::of_steps(random, Size::Any, vec![])
+            },
         }
     }
 
@@ -70,6 +91,7 @@ impl Sequence {
             image: None,
             moved: false,
             follow: None,
+            stamps_left: 0,
         }
     }
 
@@ -103,6 +125,9 @@ impl Sequence {
         if self.pending.is_empty() {
             if let Some(follow) = &mut self.follow {
                 self.pending.extend(follow.next(&mut self.random, state));
+            } else if self.stamps_left > 0 {
+                self.stamps_left -= 1;
+                self.plan_stamp();
             } else if self.commands_left > 0 {
                 self.commands_left -= 1;
                 self.plan(state);
@@ -139,6 +164,7 @@ impl Sequence {
             15..=24 if self.size == Size::Any || self.random.one_in(8) => {
                 self.plan_index(&state.image);
             }
+            25..=28 if self.size == Size::Any || self.random.one_in(4) => self.plan_stamp(),
             _ => self.plan_command(&view, &state.image),
         }
     }
@@ -207,6 +233,12 @@ impl Sequence {
     /// A call of an index, with the image's body of a kind or with a made-up one.
     fn plan_index(&mut self, image: &[u8]) {
         let step = index::step(&mut self.random, image, self.size);
+        self.pending.push_back(step);
+    }
+
+    /// A record to read as a stamp.
+    fn plan_stamp(&mut self) {
+        let step = stamps::step(&mut self.random, self.size);
         self.pending.push_back(step);
     }
 

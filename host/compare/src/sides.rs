@@ -2,6 +2,7 @@
 
 use crate::card::Size;
 use crate::hex::hex;
+use crate::index;
 use crate::random::Random;
 use crate::sequence::Sequence;
 use crate::step::{IndexCall, State, Step};
@@ -24,6 +25,8 @@ pub type IndexBuild = fn(u16, &[u8], &mut [u32]) -> u64;
 pub type IndexExtend = fn(u16, &[u8], &mut [u32], usize) -> u64;
 /// Reads by an index: body, list, number.
 pub type IndexRead = fn(&[u8], &[u32], usize) -> u64;
+/// Reads a stamp: record, list.
+pub type StampRead = fn(&[u8], &mut [u32]) -> u64;
 
 /// One implementation.
 pub struct Machine {
@@ -35,6 +38,7 @@ pub struct Machine {
     pub index_build: IndexBuild,
     pub index_extend: IndexExtend,
     pub index_read: IndexRead,
+    pub stamp_read: StampRead,
 }
 
 pub const PROVED: Machine = Machine {
@@ -46,6 +50,7 @@ pub const PROVED: Machine = Machine {
     index_build: malquindo_sys::index_build,
     index_extend: malquindo_sys::index_extend,
     index_read: malquindo_sys::index_read,
+    stamp_read: malquindo_sys::stamp_read,
 };
 
 pub const REFERENCE: Machine = Machine {
@@ -57,6 +62,7 @@ pub const REFERENCE: Machine = Machine {
     index_build: reference::index_build,
     index_extend: reference::index_extend,
     index_read: reference::index_read,
+    stamp_read: reference::stamp::read_call,
 };
 
 /// All that a call may change.
@@ -85,6 +91,21 @@ pub fn compare(seed: u64, calls: u64) -> Result<Tally, Box<Difference>> {
     compare_machines(seed, calls, &PROVED, &REFERENCE)
 }
 
+/// Compares so many reads of stamps of the seed, and nothing else.
+pub fn compare_stamps(seed: u64, calls: u64) -> Result<Tally, Box<Difference>> {
+    compare_stamp_readers(seed, calls, &PROVED, &REFERENCE)
+}
+
+/// The same of any two implementations.
+pub fn compare_stamp_readers(
+    seed: u64,
+    calls: u64,
+    proved: &Machine,
+    reference: &Machine,
+) -> Result<Tally, Box<Difference>> {
+    compare_sequences(seed, calls, proved, reference, Sequence::of_stamps)
+}
+
 /// Compares any two implementations; the sequences go on from what the second one left.
 pub fn compare_machines(
     seed: u64,
@@ -92,11 +113,23 @@ pub fn compare_machines(
     proved: &Machine,
     reference: &Machine,
 ) -> Result<Tally, Box<Difference>> {
+    let sequence = |seed, number| Sequence::new(seed, number, Size::Any);
+    compare_sequences(seed, calls, proved, reference, sequence)
+}
+
+/// The same with the sequences that a seed and a number give.
+fn compare_sequences(
+    seed: u64,
+    calls: u64,
+    proved: &Machine,
+    reference: &Machine,
+    sequence: impl Fn(u64, u64) -> Sequence,
+) -> Result<Tally, Box<Difference>> {
     let mut tally = Tally::default();
     let mut sides = Sides::default();
     let mut fill = Random::part(seed, u64::MAX);
     for number in 0.. {
-        let mut sequence = Sequence::new(seed, number, Size::Any);
+        let mut sequence = sequence(seed, number);
         let mut step_number = 0;
         sides.start();
         while let Some(mut step) = sequence.next(&sides.reference.state) {
@@ -140,8 +173,8 @@ impl Sides {
         self.reference = Outcome::default();
     }
 
-    /// Gives both sides the same response buffer or target, of random bytes, and keeps what they
-    /// hold.
+    /// Gives both sides the same response buffer, target or list, of random bytes, and keeps what
+    /// they hold.
     fn prepare(&mut self, step: &Step, fill: &mut Random) {
         let Self {
             before,
@@ -160,6 +193,12 @@ impl Sides {
                 fill.fill(&mut before.target);
                 proved.target.clone_from(&before.target);
                 reference.target.clone_from(&before.target);
+            }
+            Step::Stamp { entries, .. } => {
+                let places = index::made_up(fill, *entries);
+                proved.state.places.clone_from(&places);
+                reference.state.places.clone_from(&places);
+                before.state.places = places;
             }
             // These have no buffer to fill, or bring their own.
             Step::Image(_)
@@ -243,6 +282,7 @@ impl Outcome {
                         .collect(),
                 };
             }
+            Step::Stamp { record, .. } => *answers = vec![(machine.stamp_read)(record, places)],
         }
     }
 
@@ -281,6 +321,7 @@ impl fmt::Display for Difference {
                 writeln!(f, "list     {places:?}")?;
                 writeln!(f, "body     {}", hex(body))?;
             }
+            Step::Stamp { record, .. } => writeln!(f, "stamp    {}", hex(record))?,
             Step::Image(_) | Step::Session(_) => writeln!(f, "no call")?,
         }
         self.side(f, "BEFORE", &self.before)?;
@@ -300,7 +341,9 @@ impl Difference {
             Step::Move { .. } => writeln!(f, "{name} target   {}", hex(&outcome.target))?,
             Step::File(_) | Step::Certificates { .. } => {}
             Step::Index { .. } if name == "BEFORE" => {}
-            Step::Index { .. } => writeln!(f, "{name} list     {:?}", outcome.state.places)?,
+            Step::Index { .. } | Step::Stamp { .. } => {
+                writeln!(f, "{name} list     {:?}", outcome.state.places)?;
+            }
             _ => writeln!(f, "{name} response {}", hex(&outcome.response))?,
         }
         writeln!(f, "{name} image    {}", hex(image))
@@ -338,6 +381,13 @@ impl Difference {
                 let (refusal, places) = (result >> 32, *result as u32);
                 write!(f, "{name} result {result}: ")?;
                 writeln!(f, "refusal {refusal}, places {places}")
+            }),
+            Step::Stamp { .. } => state.answers.iter().try_for_each(|result| {
+                let (reason, offset) = (result >> 32, *result as u32);
+                writeln!(
+                    f,
+                    "{name} result {result}: reason {reason}, offset {offset}"
+                )
             }),
             _ => writeln!(
                 f,

@@ -35,6 +35,11 @@ pub enum Step {
         places: Vec<u32>,
         body: Vec<u8>,
     },
+    /// A record, read as a stamp with a list of so many entries.
+    Stamp {
+        record: Vec<u8>,
+        entries: usize,
+    },
 }
 
 /// What is done with an index.
@@ -88,11 +93,11 @@ pub struct State {
     pub session: Vec<u8>,
     /// The result of the last opening, command or move.
     pub result: u64,
-    /// The results of the last step that is none of these: one of a file, and of building or
-    /// extending an index; as many as there are references or numbers of certificates and of
-    /// reading by an index.
+    /// The results of the last step that is none of these: one of a file, of a stamp, and of
+    /// building or extending an index; as many as there are references or numbers of certificates
+    /// and of reading by an index.
     pub answers: Vec<u64>,
-    /// The list after the last call of an index.
+    /// The list after the last call of an index, or of a stamp.
     pub places: Vec<u32>,
 }
 
@@ -115,7 +120,9 @@ impl State {
             Step::Open(_) | Step::Command { .. } | Step::Move { .. } => {
                 std::slice::from_ref(&self.result)
             }
-            Step::File(_) | Step::Certificates { .. } | Step::Index { .. } => &self.answers,
+            Step::File(_) | Step::Certificates { .. } | Step::Index { .. } | Step::Stamp { .. } => {
+                &self.answers
+            }
         }
     }
 }

@@ -3,6 +3,7 @@
 use crate::command::NAMES;
 use crate::index_tally::IndexTally;
 use crate::make;
+use crate::stamp_tally::StampTally;
 use crate::step::Step;
 use crate::view;
 use std::collections::BTreeMap;
@@ -52,13 +53,15 @@ pub struct Tally {
     /// Calls by reference, without those that were refused.
     references: BTreeMap<u8, u64>,
     pub index: IndexTally,
+    pub stamp: StampTally,
 }
 
 impl Tally {
     pub fn calls(&self) -> u64 {
         let files: u64 = self.files.iter().sum();
         let certificates: u64 = self.certificates.iter().sum();
-        self.commands + self.opens + self.moves + files + certificates + self.index.calls()
+        let others = files + certificates + self.index.calls() + self.stamp.calls();
+        self.commands + self.opens + self.moves + others
     }
 
     /// Counts a step by the results of its calls; an image or a session has none.
@@ -67,6 +70,7 @@ impl Tally {
             self.bodies[form(card)][form(desk)] += 1;
         }
         self.index.step(step, results);
+        self.stamp.step(step, results);
         for (at, result) in results.iter().enumerate() {
             self.call(step, at, *result);
         }
@@ -86,8 +90,8 @@ impl Tally {
             }
             Step::File(_) => self.files[usize::from(result != 0)] += 1,
             Step::Certificates { first, .. } => self.certificate(first + at as u8, result),
-            // An index has a tally of its own.
-            Step::Image(_) | Step::Session(_) | Step::Index { .. } => {}
+            // Indexes and stamps have tallies of their own.
+            Step::Image(_) | Step::Session(_) | Step::Index { .. } | Step::Stamp { .. } => {}
         }
     }
 
@@ -142,7 +146,8 @@ impl Tally {
     /// What occurred too seldom: each status, each refusal, 9000 of each command, 9000 of a
     /// search by an id and by either spelling of a short id, 6981 of the last two, 6A82 of a search by
     /// another byte, moves done, files found and not, what comes of a reference, bodies that are
-    /// damaged, empty or full, each of the 256 references, each sort of call of an index.
+    /// damaged, empty or full, each of the 256 references, each sort of call of an index, each
+    /// fault of a stamp at each place.
     pub fn missing(&self, each: u64, done: u64) -> Vec<String> {
         let statuses = STATUSES
             .iter()
@@ -177,6 +182,7 @@ impl Tally {
             .chain(moved)
             .chain(self.wanted_files_and_certificates(each, done))
             .chain(self.index.wanted(each, done))
+            .chain(self.stamp.wanted(each, done))
             .filter(|(_, count, wanted)| count < wanted)
             .map(|(what, count, wanted)| format!("{what}: {count} times, {wanted} wanted"))
             .collect()
@@ -264,10 +270,10 @@ impl fmt::Display for Tally {
         let files: u64 = self.files.iter().sum();
         let certificates: u64 = self.certificates.iter().sum();
         write!(f, "{commands} commands, {opens} openings, {moves} moves, ")?;
-        let index = self.index.calls();
+        let (index, stamps) = (self.index.calls(), self.stamp.calls());
         writeln!(
             f,
-            "{files} files, {certificates} certificates, {index} index calls\n"
+            "{files} files, {certificates} certificates, {index} index calls, {stamps} stamps\n"
         )?;
         write!(f, "| status |")?;
         let names = NAMES.iter().map(|(_, name, ..)| *name);
@@ -308,7 +314,7 @@ impl fmt::Display for Tally {
             writeln!(f, "| refusal {number} | {} |", self.moved(number))?;
         }
         self.show_files_and_certificates(f)?;
-        write!(f, "{}", self.index)
+        write!(f, "{}{}", self.index, self.stamp)
     }
 }
 

@@ -5,6 +5,7 @@ use compare::scene;
 use compare::sides::{
     compare, compare_machines, Certificate, Command, File, Machine, MoveCard, PROVED, REFERENCE,
 };
+use compare::stamp_faults::Reason;
 use compare::step::{IndexCall, Step};
 use compare::view;
 
@@ -314,6 +315,11 @@ fn said(step: &Step, line: &str) -> String {
             _ if refusal == 0 => format!("{result} places, list {rest}"),
             _ => format!("refusal {refusal}, list {rest}"),
         },
+        Step::Stamp { .. } => match Reason::of(result) {
+            None if result == 0 => format!("stamp, list {rest}"),
+            None => format!("refusal {refusal}, list {rest}"),
+            Some(reason) => format!("{} at {}, list {rest}", reason.name(), result as u32),
+        },
         Step::Image(_) | Step::Session(_) | Step::Open(_) => String::new(),
     }
 }
@@ -326,6 +332,7 @@ fn the_sample_covers_what_it_should() {
     assert_eq!(sample.tally.missing(3, 20), Vec::<String>::new());
     assert!((60..=140).contains(&sample.tally.moves));
     assert!((300..=500).contains(&sample.tally.index.calls()));
+    assert!((1_000..=1_200).contains(&sample.tally.stamp.calls()));
     let lines = sample.stdout.lines().count() as u64;
     assert_eq!(lines, sample.tally.calls());
     assert_eq!(Sample::generate(sample::SEED).stdin, sample.stdin);

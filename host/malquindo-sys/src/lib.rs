@@ -1,6 +1,6 @@
-//! The nine functions of `include/malquindo.h`, declared as they stand there, and the same
+//! The ten functions of `include/malquindo.h`, declared as they stand there, and the same
 //! functions on slices ([`open`], [`command`], [`move_card`], [`file`](fn@file), [`certificate`],
-//! [`index_build`], [`index_extend`] and [`index_read`]), which are safe to call.
+//! [`index_build`], [`index_extend`], [`index_read`] and [`stamp_read`]), which are safe to call.
 //!
 //! Most callers want the crate `malquindo`, which has types for sessions, answers and refusals.
 //!
@@ -88,6 +88,15 @@ extern "C" {
         places: *const u32,
         places_len: usize,
         number: usize,
+    ) -> u64;
+
+    /// Reads a record as a stamp. The result is 0, with the places of its fields in the list; or
+    /// reason * 2^32 + offset of the first fault; or 15 * 2^32 for a list that is too short.
+    pub fn malquindo_stamp_read(
+        record: *const u8,
+        record_len: usize,
+        places: *mut u32,
+        places_len: usize,
     ) -> u64;
 }
 
@@ -210,6 +219,20 @@ pub fn index_read(body: &[u8], places: &[u32], number: usize) -> u64 {
             places.as_ptr(),
             places.len(),
             number,
+        )
+    }
+}
+
+/// `malquindo_stamp_read` on slices of any length.
+pub fn stamp_read(record: &[u8], places: &mut [u32]) -> u64 {
+    // SAFETY: pointers and lengths are those of slices, which are never null and are aligned for
+    // their elements; the slice that is written is borrowed by this call alone.
+    unsafe {
+        malquindo_stamp_read(
+            record.as_ptr(),
+            record.len(),
+            places.as_mut_ptr(),
+            places.len(),
         )
     }
 }

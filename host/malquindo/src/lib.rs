@@ -34,13 +34,15 @@
 //!
 //! [`move_card`] writes a card anew, with other rooms. [`file`](fn@file) finds a file's body in an
 //! image, and [`certificate`] the certificate that a stamp names. An [`Index`] reads a record
-//! without a walk over those before it.
+//! without a walk over those before it. [`read_stamp`] tells what a stamp says.
 
 #![forbid(unsafe_code)]
 
 mod index;
+mod stamp;
 
 pub use index::Index;
+pub use stamp::{read_stamp, Field, Reason, Stamp, StampFault};
 
 use std::fmt;
 use std::ops::Range;
@@ -51,6 +53,8 @@ pub const SESSION_LEN: usize = 25;
 pub const RESPONSE_LEN: usize = 2_050;
 /// How many records a file has at most.
 pub const RECORDS: usize = 254;
+/// How many bytes a stamp has at most.
+pub const STAMP_LEN: usize = 391;
 
 /// A session: 20 rights bytes, application, place, file id and record number.
 ///
@@ -92,6 +96,8 @@ pub enum Refusal {
     SmallRoom,
     /// 13: the target is shorter than the new image.
     ShortTarget,
+    /// 15: the list has too few entries for a stamp's places. That of [`read_stamp`] has enough.
+    ShortList,
     /// Any other number. The library that this crate was written for answers none; one of
     /// another version may.
     Unknown(u32),
@@ -111,6 +117,7 @@ impl Refusal {
             Self::MissingKind => 11,
             Self::SmallRoom => 12,
             Self::ShortTarget => 13,
+            Self::ShortList => 15,
             Self::Unknown(number) => number,
         }
     }
@@ -128,6 +135,7 @@ impl Refusal {
             11 => Self::MissingKind,
             12 => Self::SmallRoom,
             13 => Self::ShortTarget,
+            15 => Self::ShortList,
             other => Self::Unknown(other),
         }
     }
@@ -146,6 +154,7 @@ impl fmt::Display for Refusal {
             Self::MissingKind => "a file of the old card has no room in the list",
             Self::SmallRoom => "a room is too small for its content",
             Self::ShortTarget => "the target is shorter than the new image",
+            Self::ShortList => "the list is too short for a stamp's places",
             Self::Unknown(number) => return write!(f, "refusal {number}, which is not known here"),
         })
     }
@@ -351,7 +360,7 @@ mod tests {
         for number in 1..20 {
             let refusal = accepted(u64::from(number) << 32).unwrap_err();
             assert_eq!(refusal.number(), number);
-            let known = matches!(number, 1..=4 | 6 | 9..=13);
+            let known = matches!(number, 1..=4 | 6 | 9..=13 | 15);
             assert_eq!(refusal == Refusal::Unknown(number), !known);
         }
     }

@@ -12,7 +12,8 @@
 //! - `commands`: the eight commands;
 //! - `moving`: the move of a card to rooms of other sizes;
 //! - `certificates`: the certificate that a stamp names, on the card or in the desk's copy;
-//! - `index`: the places of a body's records, kept to read a record without a walk.
+//! - `index`: the places of a body's records, kept to read a record without a walk;
+//! - `stamp`: the places of a stamp's fields, or its first fault.
 
 #![forbid(unsafe_code)]
 
@@ -26,6 +27,7 @@ mod objects;
 mod rights;
 mod search;
 mod session;
+pub mod stamp;
 
 use image::Layout;
 use rights::Rights;
@@ -39,8 +41,8 @@ pub const SESSION_LEN: usize = 25;
 /// The shortest response buffer that a command takes.
 const SHORTEST_RESPONSE: usize = 2_050;
 
-/// Why a call gets no status word. 6 is of an index, 9 of a stamp's certificate, the last four are
-/// of a move.
+/// Why a call gets no status word. 6 is of an index, 9 of a stamp's certificate, 10 to 13 are of a
+/// move, 15 is of a list too short for a stamp's places.
 #[derive(Clone, Copy)]
 enum Refusal {
     Response = 1,
@@ -53,6 +55,7 @@ enum Refusal {
     Missing = 11,
     Room = 12,
     Target = 13,
+    Short = 15,
 }
 
 impl Refusal {

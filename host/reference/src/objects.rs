@@ -55,7 +55,7 @@ impl<'a> Objects<'a> {
 }
 
 /// A length field and what follows it. Each length has one form, the shortest.
-fn split_length(bytes: &[u8]) -> Option<(usize, &[u8])> {
+pub fn split_length(bytes: &[u8]) -> Option<(usize, &[u8])> {
     match *bytes {
         [length @ 0..=0x7F, ref rest @ ..] => Some((usize::from(length), rest)),
         [0x81, length @ 0x80..=0xFF, ref rest @ ..] => Some((usize::from(length), rest)),

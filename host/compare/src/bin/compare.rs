@@ -1,21 +1,30 @@
-//! Compares the proved library with the reference: `compare --seed N --calls N`.
+//! Compares the proved library with the reference: `compare --seed N --calls N`, or on stamps alone
+//! `compare --seed N --stamps N`.
 
-use compare::sides::compare;
+use compare::sides::{compare, compare_stamps};
 use std::process::ExitCode;
 use std::time::Instant;
 
 fn main() -> ExitCode {
-    let Some((seed, calls)) = arguments() else {
-        eprintln!("usage: compare [--seed N] [--calls N]");
+    let Some((seed, run)) = arguments() else {
+        eprintln!("usage: compare [--seed N] [--calls N | --stamps N]");
         return ExitCode::from(2);
     };
     let start = Instant::now();
-    match compare(seed, calls) {
+    let compared = match run {
+        Run::Calls(calls) => compare(seed, calls),
+        Run::Stamps(stamps) => compare_stamps(seed, stamps),
+    };
+    match compared {
         Ok(tally) => {
-            let (calls, index) = (tally.calls(), tally.index.calls());
-            println!("seed {seed}: no difference in {calls} calls, {index} of them of an index");
+            let (calls, index, stamps) = (tally.calls(), tally.index.calls(), tally.stamp.calls());
+            print!("seed {seed}: no difference in {calls} calls, ");
+            println!("{index} of them of an index, {stamps} of stamps");
             println!("{:.1} seconds\n", start.elapsed().as_secs_f64());
-            print!("{tally}");
+            match run {
+                Run::Calls(_) => print!("{tally}"),
+                Run::Stamps(_) => print!("{}", tally.stamp),
+            }
             ExitCode::SUCCESS
         }
         Err(difference) => {
@@ -25,17 +34,25 @@ fn main() -> ExitCode {
     }
 }
 
-/// Seed and calls, each with a value to go by where it is not given.
-fn arguments() -> Option<(u64, u64)> {
-    let (mut seed, mut calls) = (1, 100_000);
+/// What is compared, and how often.
+#[derive(Clone, Copy)]
+enum Run {
+    Calls(u64),
+    Stamps(u64),
+}
+
+/// Seed and run, each with a value to go by where it is not given.
+fn arguments() -> Option<(u64, Run)> {
+    let (mut seed, mut run) = (1, Run::Calls(100_000));
     let mut arguments = std::env::args().skip(1);
     while let Some(name) = arguments.next() {
         let value = arguments.next()?.parse().ok()?;
         match name.as_str() {
             "--seed" => seed = value,
-            "--calls" => calls = value,
+            "--calls" => run = Run::Calls(value),
+            "--stamps" => run = Run::Stamps(value),
             _ => return None,
         }
     }
-    Some((seed, calls))
+    Some((seed, run))
 }

@@ -1,23 +1,20 @@
--- `read` refuses data that is too long, and reads other data to a depth of four.
+-- `read` refuses data that is too long, and reads other data.
 use borrow.Author.Needs.{needs}
 use borrow.Author.Tests.{lt-ltb, le-ltb}
 use Rattle.objects_reader.specs.Form.{readBy}
 use Rattle.objects_reader.proofs.reader.read.Statement.{statement}
 use Rattle.objects_reader.proofs.reader.read.Tie as tie
 
-spoil-requires : tie.Need-spoil-requires
-spoil-requires c κs = search needs
-
 returns : tie.Need-returns
 unfolding readBy
-returns c = simp (lt-ltb _ _ (c .before .if1 .taken)) (c .spoil .ensures)
+returns c = simp (lt-ltb _ _ (c .if1 .taken))
 
-objects-requires : tie.Need-objects-requires
-objects-requires c κs = search needs
+read-all-requires : tie.Need-read-all-requires
+read-all-requires c κs = search needs
 
 returns-2 : tie.Need-returns-2
 unfolding readBy
-returns-2 c = simp (le-ltb _ _ (c .before .if1 .left)) (c .objects .ensures)
+returns-2 c = simp (le-ltb _ _ (c .before .if1 .left)) (c .«read-all» .ensures)
 
 pub read-spec : {M : Type 1} → statement M
-read-spec = tie.close (tie.spec spoil-requires returns objects-requires returns-2)
+read-spec = tie.close (tie.spec returns read-all-requires returns-2)

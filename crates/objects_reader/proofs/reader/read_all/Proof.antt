@@ -1,0 +1,13 @@
+-- `read_all` reads to a depth of four.
+use borrow.Author.Needs.{needs}
+use Rattle.objects_reader.proofs.reader.read_all.Statement.{statement}
+use Rattle.objects_reader.proofs.reader.read_all.Tie as tie
+
+objects-requires : tie.Need-objects-requires
+objects-requires c κs = search needs
+
+returns : tie.Need-returns
+returns c = c .objects .ensures
+
+pub read-all-spec : {M : Type 1} → statement M
+read-all-spec = tie.close (tie.spec objects-requires returns)
