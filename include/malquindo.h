@@ -169,10 +169,11 @@ uint64_t malquindo_index_read(const uint8_t *body, size_t body_len, const uint32
  * order of the fields below: where its value begins in the record, and how many bytes it has. Both are 0 for an optional field
  * that is absent. Entries behind them stay as they came.
  *
- * Else the upper 32 bits are the reason of the first fault, one of MALQUINDO_STAMP_TAG, MALQUINDO_STAMP_LENGTH and
- * MALQUINDO_STAMP_CONTENT, and the lower 32 bits are its offset in the record: that of the first byte of the object at fault
- * (of its tag), or of the place where a missing one should stand. These reasons are no refusals. The list then stays as it
- * came.
+ * Else the upper 32 bits are the reason of the first fault, one of MALQUINDO_STAMP_WRONG_TAG, MALQUINDO_STAMP_WRONG_LENGTH
+ * and MALQUINDO_STAMP_WRONG_CONTENT, and the lower 32 bits are its offset in the record: that of the first byte of the object
+ * at fault (of its tag), or of the place where a missing one should stand. The first fault has the smallest offset; at one
+ * offset a wrong tag comes before a wrong length, and that before a wrong content. These reasons are no refusals. The list
+ * then stays as it came.
  *
  * Refusal 15, before all: the list has fewer than MALQUINDO_STAMP_PLACES entries. The list then stays as it came. The record
  * is only read; it may have any length. */
@@ -188,15 +189,15 @@ uint64_t malquindo_stamp_read(const uint8_t *record, size_t record_len, uint32_t
 #define MALQUINDO_STAMP_INSPECTOR 6   /* 5F4A: 1 to 20 characters */
 #define MALQUINDO_STAMP_RESULT 7      /* 5F4D, optional: 1 to 50 characters */
 #define MALQUINDO_STAMP_MODE 8        /* 5F49, optional: 1 letter */
-#define MALQUINDO_STAMP_DURATION 9    /* 5F48, optional: 1 or 2 bytes */
+#define MALQUINDO_STAMP_DURATION 9    /* 5F48, optional: days in 1 or 2 bytes, the high byte first; any bytes are allowed */
 #define MALQUINDO_STAMP_CONDITIONS 10 /* 5F4E, optional: 1 to 50 characters */
 #define MALQUINDO_STAMP_SIGNATURE 11  /* 5F37, behind 73: 1 to 140 bytes */
 #define MALQUINDO_STAMP_REFERENCE 12  /* 5F38: 1 byte, 01 to FE: the number of a travel certificate */
 
 /* Why a record is no stamp. */
-#define MALQUINDO_STAMP_TAG 1     /* an object is missing, out of order or too many */
-#define MALQUINDO_STAMP_LENGTH 2  /* a length that goes too far, is not the shortest form, or that the table does not allow */
-#define MALQUINDO_STAMP_CONTENT 3 /* a value that the table does not allow, or two States that differ */
+#define MALQUINDO_STAMP_WRONG_TAG 1     /* an object is missing, out of order or too many; or half a tag stands at the end */
+#define MALQUINDO_STAMP_WRONG_LENGTH 2  /* none, past the end, not in its shortest form, or one that the table does not allow */
+#define MALQUINDO_STAMP_WRONG_CONTENT 3 /* a byte that the table does not allow; or, at the State inside 73, not the copy */
 
 /* The parts of a result. */
 
@@ -234,9 +235,9 @@ static inline const uint8_t *malquindo_index_record(const uint8_t *body, const u
     return body + places[number - 1] + 2;
 }
 
-/* Of a stamp: why the record is none, one of the three above, or refusal 15; 0 where it is a stamp. */
+/* Of malquindo_stamp_read: one of the three reasons above, or refusal 15; 0 where the record is a stamp. */
 static inline unsigned malquindo_stamp_reason(uint64_t result) { return (unsigned)(result >> 32); }
-/* Of a record that is no stamp: where the first fault is. */
+/* Of malquindo_stamp_read, where the record is no stamp: where its first fault is. */
 static inline size_t malquindo_stamp_offset(uint64_t result) { return (size_t)(result & 0xFFFFFFFF); }
 /* Of a stamp: where the value of a field begins in the record, 0 where the field is absent. */
 static inline size_t malquindo_stamp_place(const uint32_t *places, unsigned field) { return places[2 * field]; }

@@ -104,13 +104,13 @@ static int stamp(const uint8_t *record, size_t record_len)
     switch (malquindo_stamp_reason(result)) {
     case 0: /* a stamp */
         break;
-    case MALQUINDO_STAMP_TAG:
+    case MALQUINDO_STAMP_WRONG_TAG:
         printf("no stamp: a wrong tag at %u\n", at);
         return 0;
-    case MALQUINDO_STAMP_LENGTH:
+    case MALQUINDO_STAMP_WRONG_LENGTH:
         printf("no stamp: a wrong length at %u\n", at);
         return 0;
-    case MALQUINDO_STAMP_CONTENT:
+    case MALQUINDO_STAMP_WRONG_CONTENT:
         printf("no stamp: a wrong value at %u\n", at);
         return 0;
     default:

@@ -92,8 +92,8 @@ import sys
 from typing import Iterable, NamedTuple, Optional, Tuple, Union
 
 __all__ = ['RIGHTS_LEN', 'SESSION_LEN', 'RESPONSE_LEN', 'IMAGE_LEN', 'RECORDS', 'STAMP_LEN', 'STAMP_PLACES', 'Refusal', 'Refused', 'Answer',
-           'Source', 'Certificate', 'Index', 'Reason', 'StampFault', 'Stamp', 'open', 'command', 'move_card', 'file', 'certificate',
-           'read_stamp',
+           'Source', 'Certificate', 'Index', 'StampField', 'Reason', 'StampFault', 'Stamp', 'open', 'command', 'move_card', 'file',
+           'certificate', 'read_stamp',
            'malquindo_session_len', 'malquindo_open', 'malquindo_command', 'malquindo_move', 'malquindo_file', 'malquindo_certificate',
            'malquindo_index_build', 'malquindo_index_extend', 'malquindo_index_read', 'malquindo_stamp_read',
            'malquindo_refusal', 'malquindo_length', 'malquindo_status', 'malquindo_moved', 'malquindo_file_place', 'malquindo_file_length',
@@ -135,7 +135,7 @@ class Refusal(enum.IntEnum):
     SHORT_LIST = 15
 
 
-REASONS = {
+REFUSAL_WORDS = {
     Refusal.SHORT_BUFFER: 'the response buffer is shorter than 2,050 bytes',
     Refusal.BAD_IMAGE: 'the image is not well formed',
     Refusal.BAD_RIGHTS: 'the rights are not 60 bytes',
@@ -155,9 +155,9 @@ class Refused(Exception):
 
     def __init__(self, number: int):
         # A library of another version may have other numbers.
-        known = number in REASONS
+        known = number in REFUSAL_WORDS
         self.refusal = Refusal(number) if known else number
-        super().__init__(f'{number} {self.refusal.name}: {REASONS[number]}' if known else f'{number}, which is not known here')
+        super().__init__(f'{number} {self.refusal.name}: {REFUSAL_WORDS[number]}' if known else f'{number}, which is not known here')
 
 
 class Answer(NamedTuple):
@@ -230,14 +230,37 @@ class Index:
         return f'Index(0x{self.kind:04X}, {self._places.tolist()})'
 
 
+class StampField(enum.IntEnum):
+    """The fields of a stamp, in the order of Table 11. The numbers are those of the header."""
+    STATE_COPY = 0
+    STATE = 1
+    VISAS = 2
+    DATE = 3
+    AUTHORITY = 4
+    LOCATION = 5
+    INSPECTOR = 6
+    RESULT = 7
+    MODE = 8
+    DURATION = 9
+    CONDITIONS = 10
+    SIGNATURE = 11
+    REFERENCE = 12
+
+
 class Reason(enum.IntEnum):
-    """Why a record is no stamp. The numbers are those of the header; they are no refusals."""
+    """Why a record is no stamp. The numbers are those of the header; they are no refusals.
+
+    TAG: an object is missing, out of order or too many; or half a tag stands at the end of its container.
+    LENGTH: there is no length byte, or not all of them; the length has a form other than the three, or not the shortest; it goes past the end
+    of its container, or is one that the table does not allow.
+    CONTENT: a value has a byte that the table does not allow; or the two States differ, which is told at the one inside 73.
+    """
     TAG = 1
     LENGTH = 2
     CONTENT = 3
 
 
-FAULTS = {
+REASON_WORDS = {
     Reason.TAG: 'an object is missing, out of order or too many',
     Reason.LENGTH: 'a length goes too far, is not the shortest form or is not allowed',
     Reason.CONTENT: 'a value is not allowed, or the two States differ',
@@ -245,32 +268,40 @@ FAULTS = {
 
 
 class StampFault(Exception):
-    """The first thing that is wrong with a record that is no stamp. `at` is where its object begins, or where a missing one should stand."""
+    """The first thing that is wrong with a record that is no stamp.
+
+    `at` is where the object at fault begins in the record, or where a missing one should stand. `reason` is what is wrong there: a Reason, or
+    the number of one that is not known here.
+    """
 
     def __init__(self, at: int, reason: int):
         # A library of another version may have other reasons.
-        known = reason in FAULTS
+        known = reason in REASON_WORDS
         self.at = at
         self.reason = Reason(reason) if known else reason
-        what = f'{self.reason.name}: {FAULTS[reason]}' if known else f'{reason}, which is not known here'
+        what = f'{self.reason.name}: {REASON_WORDS[reason]}' if known else f'{reason}, which is not known here'
         super().__init__(f'offset {at}, {what}')
 
 
 class Stamp(NamedTuple):
-    """What a stamp says, in the order of Table 11. An optional field that is absent is None."""
-    state_copy: bytes               # the same as the State
-    state: bytes                    # 3 letters
-    visas: Optional[bytes]          # approvals, refusals and revocations of visas
+    """What a stamp says, in the order of Table 11, which is that of StampField. An optional field that is absent is None.
+
+    The duration is in days, the high byte first: Table 11's example 00FF is 255. The library does not look into it. Nor does it look up the
+    date in a calendar or check the signature.
+    """
+    state_copy: bytes               # before the signed part (the object 73): the same as the State
+    state: bytes                    # inside the signed part: 3 letters
+    visas: Optional[bytes]          # approvals, refusals and revocations of visas: 1 to 50 characters
     date: bytes                     # 8 digits
-    authority: bytes
-    location: bytes
-    inspector: bytes
-    result: Optional[bytes]
-    mode: Optional[bytes]           # 1 letter
-    duration: Optional[bytes]       # 1 or 2 bytes
-    conditions: Optional[bytes]
-    signature: bytes
-    reference: int                  # the number of a travel certificate, as `certificate` takes it
+    authority: bytes                # the inspection authority: 1 to 10 characters
+    location: bytes                 # the inspection location: 1 to 10 characters
+    inspector: bytes                # 1 to 20 characters
+    result: Optional[bytes]         # the result of the inspection: 1 to 50 characters
+    mode: Optional[bytes]           # the mode of travel: any letter, 1 byte
+    duration: Optional[bytes]       # the duration of stay: 1 or 2 bytes
+    conditions: Optional[bytes]     # conditions that the holder has to observe: 1 to 50 characters
+    signature: bytes                # over the signed part: 1 to 140 bytes
+    reference: int                  # the number of a travel certificate, 0x01 to 0xFE, as `certificate` takes it
 
 
 def open(rights: Buffer) -> bytearray:
@@ -331,7 +362,8 @@ def read_stamp(record: Buffer) -> Stamp:
     if result:
         raise StampFault(malquindo_stamp_offset(result), malquindo_stamp_reason(result))
     view = byte_view('record', record)
-    parts = ((malquindo_stamp_place(places, field), malquindo_stamp_length(places, field)) for field in range(STAMP_PLACES // 2))
+    parts = ((malquindo_stamp_place(places, field), malquindo_stamp_length(places, field)) for field in StampField)
+    # A value has at least one byte.
     *values, reference = (bytes(view[place:place + length]) or None for place, length in parts)
     return Stamp(*values, reference[0])
 
@@ -454,7 +486,7 @@ def malquindo_stamp_offset(result: int) -> int:
 
 
 def malquindo_stamp_place(places: Places, field: int) -> int:
-    """Of a stamp: where the value of a field begins in the record, 0 where the field is absent. Fields count from 0."""
+    """Of a stamp: where the value of a field begins in the record, 0 where the field is absent. The field is a StampField, or its number."""
     return places[2 * field]
 
 

@@ -5,6 +5,7 @@ import ctypes
 import doctest
 import pathlib
 import random
+import re
 import subprocess
 import sys
 import tempfile
@@ -14,7 +15,7 @@ import unittest
 sys.dont_write_bytecode = True     # no files beside the module
 sys.path.insert(0, str(pathlib.Path(__file__).resolve().parent))
 import malquindo
-from malquindo import Index, Reason, Source, Refusal, Stamp
+from malquindo import Index, Reason, Source, Refusal, Stamp, StampField
 
 ALL_RIGHTS = b'\xFF' * malquindo.RIGHTS_LEN
 TRAVEL = [(0x0101, 40), (0x0102, 40), (0x011A, 40)]
@@ -523,7 +524,7 @@ class Indexes(Case):
 class Stamps(Case):
     TAGS = (0x44, 0x44, 0x4C, 0x45, 0x4B, 0x46, 0x4A, 0x4D, 0x49, 0x48, 0x4E, 0x37, 0x38)
     LONGEST = (3, 3, 50, 8, 10, 10, 20, 50, 1, 2, 50, 140, 1)
-    OPTIONAL = (2, 7, 8, 9, 10)
+    OPTIONAL = (StampField.VISAS, StampField.RESULT, StampField.MODE, StampField.DURATION, StampField.CONDITIONS)
     VALUES = (b'UTO', b'UTO', b'V 1', b'20261116', b'UBP', b'AIR<7', b'I07', b'OK', b'A', b'\x00\x5A', b'NO WORK', b'\x00\xFF\x73', b'\xFE')
 
     @staticmethod
@@ -533,10 +534,12 @@ class Stamps(Case):
     def record(self, values):
         """The stamp of these values; one that is None is left out."""
         fields = [b'' if value is None else self.object(bytes([0x5F, tag]), value) for tag, value in zip(self.TAGS, values)]
-        return fields[0] + self.object(b'\x73', b''.join(fields[1:11])) + fields[11] + fields[12]
+        inside = b''.join(fields[StampField.STATE:StampField.SIGNATURE])
+        return fields[StampField.STATE_COPY] + self.object(b'\x73', inside) + fields[StampField.SIGNATURE] + fields[StampField.REFERENCE]
 
     def shortest(self):
-        return self.record([value if at in (0, 1, 3) else None if at in self.OPTIONAL else value[:1] for at, value in enumerate(self.VALUES)])
+        whole = (StampField.STATE_COPY, StampField.STATE, StampField.DATE)
+        return self.record([value if at in whole else None if at in self.OPTIONAL else value[:1] for at, value in enumerate(self.VALUES)])
 
     def fault(self, record, reason, at):
         with self.assertRaises(malquindo.StampFault) as caught:
@@ -553,6 +556,15 @@ class Stamps(Case):
         stamp = malquindo.read_stamp(self.record(self.VALUES))
         self.assertEqual(stamp, self.VALUES[:-1] + (0xFE,))
         self.assertEqual((stamp.state, stamp.mode, stamp.reference), (b'UTO', b'A', 0xFE))
+
+    def test_the_numbers_are_those_of_the_header(self):
+        header = (malquindo.ROOT / 'include/malquindo.h').read_text()
+        numbers = dict(re.findall(r'^#define MALQUINDO_STAMP_(\w+) (\d+)', header, re.MULTILINE))
+        expected = {field.name: field for field in StampField}
+        expected.update({f'WRONG_{reason.name}': reason for reason in Reason}, LEN=malquindo.STAMP_LEN, PLACES=malquindo.STAMP_PLACES)
+        self.assertEqual({name: int(number) for name, number in numbers.items()}, expected)
+        self.assertEqual([field.name.lower() for field in StampField], list(Stamp._fields))
+        self.assertEqual(2 * len(StampField), malquindo.STAMP_PLACES)
 
     def test_optional_fields(self):
         for bits in range(32):
@@ -590,12 +602,12 @@ class Stamps(Case):
         self.fault(stamp[:11] + b'UTU' + stamp[14:], Reason.CONTENT, 8)
         self.fault(stamp[:3] + b'U1O' + stamp[6:], Reason.CONTENT, 0)
         # No inspector: what is missing should stand where the signed part ends.
-        missing = self.record([None if at == 6 or at in self.OPTIONAL else value for at, value in enumerate(self.VALUES)])
+        missing = self.record([None if at == StampField.INSPECTOR or at in self.OPTIONAL else value for at, value in enumerate(self.VALUES)])
         self.fault(missing, Reason.TAG, len(missing) - 10)
 
     def test_the_words(self):
         self.assertEqual(str(malquindo.StampFault(41, 1)), 'offset 41, TAG: an object is missing, out of order or too many')
-        self.assertEqual((sorted(Reason), set(malquindo.FAULTS)), ([1, 2, 3], set(Reason)))
+        self.assertEqual((sorted(Reason), set(malquindo.REASON_WORDS)), ([1, 2, 3], set(Reason)))
         unknown = malquindo.StampFault(7, 4)
         self.assertEqual((unknown.at, unknown.reason, str(unknown)), (7, 4, 'offset 7, 4, which is not known here'))
 
@@ -613,7 +625,8 @@ class Stamps(Case):
             self.assertEqual(places, self.entries(count))
             self.assertEqual(malquindo.malquindo_stamp_read(record, places), 0)
             self.assertEqual(places[:8].tolist(), [3, 3, 11, 3, 0, 0, 17, 8])
-            self.assertEqual((malquindo.malquindo_stamp_place(places, 12), malquindo.malquindo_stamp_length(places, 12)), (44, 1))
+            self.assertEqual(malquindo.malquindo_stamp_place(places, StampField.REFERENCE), 44)
+            self.assertEqual(malquindo.malquindo_stamp_length(places, StampField.REFERENCE), 1)
             self.assertEqual(places[26:], self.entries(count)[26:])
         shelf = self.entries(30)
         self.assertEqual(malquindo.malquindo_stamp_read(record, memoryview(shelf)[2:28]), 0)
@@ -625,7 +638,7 @@ class Stamps(Case):
         pairs = memoryview(array.array('H', record + bytes(len(record) % 2)))
         for buffer in (bytearray(record), memoryview(record), memoryview(b'\x00' + record)[1:], pairs.cast('B')[:len(record)]):
             self.assertEqual(malquindo.read_stamp(buffer), stamp)
-        even = self.record([value + b'7' if at == 11 and len(record) % 2 else value for at, value in enumerate(self.VALUES)])
+        even = self.record([value + b'7' if at == StampField.SIGNATURE and len(record) % 2 else value for at, value in enumerate(self.VALUES)])
         self.assertEqual(malquindo.read_stamp(memoryview(array.array('H', even))), malquindo.read_stamp(even))
 
     def test_wrong_arguments(self):
@@ -650,7 +663,7 @@ class Refusals(Case):
     def test_the_numbers(self):
         self.assertEqual(sorted(Refusal), [1, 2, 3, 4, 6, 9, 10, 11, 12, 13, 15])
         self.assertEqual(malquindo.accept(0x29000), 0x29000)
-        self.assertEqual(set(malquindo.REASONS), set(Refusal))
+        self.assertEqual(set(malquindo.REFUSAL_WORDS), set(Refusal))
         self.assertEqual(malquindo.Refused(99).refusal, 99)
 
 

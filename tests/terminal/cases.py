@@ -1,8 +1,8 @@
 #!/usr/bin/env python3
 """Makes what the program `program_terminal` is run on, and what it must write: crates/program_terminal/stdin, stdout, args and data/.
 
-The card is the card to try of docs/RULES.md, in a file, with a larger room for ExitRecords, so that it can hold stamps. The input is demo/worked.apdu, then lines that cannot be read, rights in
-hexadecimal and in words, where the session stands, help, long lines, what the card holds, moves, certificates by their references, and stamps. The
+The card is the card to try of docs/RULES.md, in a file, with a larger room for ExitRecords, so that it can hold stamps. The input is
+demo/worked.apdu, then lines that cannot be read, rights in hexadecimal and in words, where the session stands, help, long lines, what the card holds, moves, certificates by their references, and stamps. The
 answers to the commands are the ones that the source of the rules prints, and for the search by 08 the one of clause T1; the rights follow
 section B of the rules, the certificates section P, the stamps section TR; the words are those of the tables below.
 
@@ -54,7 +54,7 @@ Each line is answered. Spaces may stand anywhere in hexadecimal; # starts a comm
   show                        lists what the card holds
   certificate 07              shows the certificate that a stamp names by 07
   certificate 07 other.card   looks for it on the card, and then in the card image of a file
-  stamp 07                    reads record 07 of EntryRecords as a stamp; `stamp 07 exit` one of ExitRecords
+  stamp 07                    reads record 07, in hexadecimal, of EntryRecords as a stamp; `stamp 07 exit` of ExitRecords
   move new.card 0101 100 0102 50 011A 40
                               writes the card with other rooms into a new file
   help                        writes this
@@ -73,7 +73,7 @@ def section(kind, body):
 
 
 # the rooms of EntryRecords, ExitRecords and travel certificates
-ROOMS = (40, 900, 40)
+ROOMS = (40, 1000, 40)
 
 
 def to_try():
@@ -304,8 +304,8 @@ BINARY = {"duration", "signature", "certificate reference"}
 # TR9: the reasons
 REASONS = {
     "tag": "wrong tag: an object is missing, out of order, or too many",
-    "length": "wrong length: past the end, not in its shortest form, or none that Table 11 allows",
-    "content": "wrong content: none that Table 11 allows, or not the State that stands first",
+    "length": "wrong length: none, past the end, not in its shortest form, or not allowed by Table 11",
+    "content": "wrong content: not allowed by Table 11, or not the State that stands first",
 }
 
 
@@ -324,7 +324,7 @@ def stamp_of(values):
 def fields_of(values):
     """The lines of a stamp."""
     for (name, _), value in zip(FIELDS, values):
-        said = "(absent)" if value is None else spaced(value.hex()) if name in BINARY else value.decode()
+        said = "(absent)" if value is None else spaced(value.hex()) if name in BINARY else f'"{value.decode()}"'
         yield f"  {name:<23} {said}"
 
 
@@ -332,7 +332,7 @@ def rows_of(record, at, reason):
     """The bytes of a record, 16 in a row, and an arrow under its fault."""
     for row in range(0, len(record) + 1, 16):
         if record[row:row + 16] or at == row:
-            yield "  " + spaced(record[row:row + 16].hex()) if record[row:row + 16] else " "
+            yield "  " + spaced(record[row:row + 16].hex()) if record[row:row + 16] else ""
         if row <= at < row + 16:
             yield " " * (2 + 3 * (at - row)) + "^ " + REASONS[reason]
 
@@ -380,6 +380,8 @@ def stamps(c):
             (with_field(1, b"FRA"), 8, "content"),                    # another State
             (with_field(3, b"2012081A"), 14, "content"),
             (with_field(5, b""), 29, "length"),
+            (short[:35] + b"\x05" + short[36:], 33, "length"),        # the inspector goes past `73`, and not past the record
+            (short[:16] + b"\x81" + short[16:], 14, "length"),        # the date's length in two bytes
             (with_field(12, b"\xFF"), 41, "content")):
         number = appended(record)
         wrong(f"stamp {number} exit", f"{number} of ExitRecords", record, at, reason)

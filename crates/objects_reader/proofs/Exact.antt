@@ -1,5 +1,6 @@
 -- A reading by a form ends clean exactly on the form's writings, and then notes the place of each value. Read before: specs/Encoding.antt,
--- specs/Places.antt. Exports `all-sound`, `all-complete`, `read-sound`, `read-complete` and `noted-unique`.
+-- specs/Places.antt. Exports `all-complete`, `all-places`, `all-sound`, `read-complete`,
+-- `read-sound`, and `bytes-drop`, `bytes-take`.
 use Prim.Native.Nat.{ℕ, zero, suc, _+_, _-_, _≤_, _<_}
 use mathlib.Core.Path.{_≡_, refl, sym, ap, ap₂, _∙_}
 use mathlib.Core.List.{List, [], _∷_, _++_, append-assoc, append-nil}
@@ -337,9 +338,3 @@ module _ (f : Form) (p : Proper f) (few : leafCount f ≤ 13) where
       let k = ap length (o .bytes) in
       let n = read-complete (o .within) (o .values) (o .sized) (omega arith) in
       record { values = o .values; bytes = o .bytes; sized = o .sized; short = l; noted = rw (← o .bytes) at n })
-
--- the places of a reading settle its values
-pub noted-unique : (s : List ℕ) (r : Reading) (us vs : List (List ℕ)) → Noted s r us → Noted s r vs → us ≡ vs
-noted-unique s r us vs m n =
-    let l : length us ≡ length vs = sym (m .count) ∙ n .count in
-    ext-getD [] us vs l (λ i h. sym (m .each i h .is) ∙ n .each i (omega arith) .is)

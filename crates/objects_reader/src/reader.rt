@@ -3,7 +3,7 @@
 ghost use mathlib.Core.Path.{_≡_};
 ghost use Prim.Native.Nat.{_+_, _≤_, _<_};
 ghost use lib.ListN.{length};
-ghost use Rattle.objects_reader.specs.Form.{formOf, cutOf, isClean, spoilt, noted, readForm, readAll, readOf};
+ghost use Rattle.objects_reader.specs.Form.{formOf, cutOf, isClean, fresh, spoilt, noted, readForm, readAll, readOf};
 ghost use Rattle.objects_reader.specs.Loops.{valueStep, missingOf, firstObject};
 use super::head::Head;
 use super::head::header;
@@ -34,6 +34,19 @@ pub struct Reading {
     pub n: usize,
     pub starts: [usize; 13],
     pub lens: [usize; 13],
+}
+
+// Before anything is read.
+fn fresh() -> Reading
+    ensures { λ r. ⌜ r ≡ fresh ⌝ }
+{
+    Reading {
+        fault: Fault::Clean,
+        at: 0,
+        n: 0,
+        starts: [0; 13],
+        lens: [0; 13],
+    }
 }
 
 // The reading with a fault noted.
@@ -185,28 +198,15 @@ fn objects(s: &[u8], form: &[[u16; 5]], base: usize, depth: usize, r: Reading) -
 pub fn read_all(s: &[u8], form: &[[u16; 5]]) -> Reading
     ensures { λ q. ⌜ q ≡ readAll (formOf (now (form .entry))) (now (s .entry)) ⌝ }
 {
-    let r = Reading {
-        fault: Fault::Clean,
-        at: 0,
-        n: 0,
-        starts: [0; 13],
-        lens: [0; 13],
-    };
-    objects(s, form, 0, 4, r)
+    objects(s, form, 0, 4, fresh())
 }
 
-// The same for the data of a command, which has at most 65,535 bytes.
+// The same for the data of a command: more than 65,535 bytes are a wrong length.
 pub fn read(s: &[u8], form: &[[u16; 5]]) -> Reading
     ensures { λ q. ⌜ q ≡ readOf (now (form .entry)) (now (s .entry)) ⌝ }
 {
     if 65535 < s.len() {
-        return Reading {
-            fault: Fault::Length,
-            at: 0,
-            n: 0,
-            starts: [0; 13],
-            lens: [0; 13],
-        };
+        return spoil(fresh(), Fault::Length, 0);
     }
     read_all(s, form)
 }

@@ -1,4 +1,4 @@
--- The contents of fields, as the code goes along their bytes. Exports `may-on`, `may-no`, `may-end` (the loop of `allows_all`) and `content-no`,
+-- The contents of fields, as the code goes along their bytes. Exports `allows-on`, `allows-no`, `allows-end` (the loop of `allows_all`) and `content-no`,
 -- `content-state`, `content-other`.
 use Prim.Native.Nat.{ℕ, zero, suc, _+_, _<_, _≤_}
 use mathlib.Core.Path.{_≡_, refl, sym, _∙_}
@@ -6,6 +6,7 @@ use mathlib.Core.List.{List, [], _∷_}
 use mathlib.Core.Bool.{Bool, true, false, not}
 use native.Mathlib.Omega.{arith}
 use lib.ListN.{length, getD, drop, drop-of-length-le}
+use lib.Seq.{drop-cons}
 use borrow.Author.Tests.{eq-eqb, ne-eqb}
 use Rattle.base.specs.Bytes.{part, sameBytes}
 use Rattle.base.proofs.Cases.{flag-refused, flag-accepted}
@@ -15,26 +16,21 @@ use Rattle.objects_stamp.specs.declared.chars.Chars.{Chars}
 
 -- ---- each byte of v, from i on
 
-drop-suc : (v : List ℕ) (i : ℕ) → i < length v → drop i v ≡ getD v i 0 ∷ drop (suc i) v
-drop-suc [] i h = absurd (omega arith)
-drop-suc (b ∷ v) zero h = refl
-drop-suc (b ∷ v) (suc i) h = drop-suc v i (omega arith)
-
-drop-at-i : (v : List ℕ) (i : ℕ) → i < length v → drop i v ≡ getD v i 0 ∷ drop (i + 1) v
-drop-at-i v i h = let e : i + 1 ≡ suc i = omega arith in rw e (drop-suc v i h)
+drop-next : (v : List ℕ) (i : ℕ) → i < length v → drop i v ≡ getD v i 0 ∷ drop (i + 1) v
+drop-next v i h = let e : i + 1 ≡ suc i = omega arith in rw e (drop-cons v i 0 h)
 
 module _ (c : Chars) (v : List ℕ) (i : ℕ) (so-far : allowsAll c v ≡ allowsAll c (drop i v)) where
-  pub may-on : {r : Bool} → i < length v → r ≡ allows c (getD v i 0) → not r ≡ false → allowsAll c v ≡ allowsAll c (drop (i + 1) v)
+  pub allows-on : {r : Bool} → i < length v → r ≡ allows c (getD v i 0) → not r ≡ false → allowsAll c v ≡ allowsAll c (drop (i + 1) v)
   unfolding allowsAll
-  may-on h e n = so-far ∙ rw (drop-at-i v i h, flag-accepted e n) refl
+  allows-on h e n = so-far ∙ rw (drop-next v i h, flag-accepted e n) refl
 
-  pub may-no : {r : Bool} → i < length v → r ≡ allows c (getD v i 0) → not r ≡ true → false ≡ allowsAll c v
+  pub allows-no : {r : Bool} → i < length v → r ≡ allows c (getD v i 0) → not r ≡ true → false ≡ allowsAll c v
   unfolding allowsAll
-  may-no h e n = sym (so-far ∙ rw (drop-at-i v i h, flag-refused e n) refl)
+  allows-no h e n = sym (so-far ∙ rw (drop-next v i h, flag-refused e n) refl)
 
-  pub may-end : length v ≤ i → true ≡ allowsAll c v
+  pub allows-end : length v ≤ i → true ≡ allowsAll c v
   unfolding allowsAll
-  may-end h = sym (so-far ∙ rw (drop-of-length-le v h) refl)
+  allows-end h = sym (so-far ∙ rw (drop-of-length-le v h) refl)
 
 -- ---- the content of a field
 

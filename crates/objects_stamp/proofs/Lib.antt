@@ -1,6 +1,5 @@
 -- Laws of stamps that proofs cite. Start with `Stamps`, then `First`.
 pub mod Contents
-pub mod Sizes
 pub mod Telling
 pub mod Table
 pub mod First

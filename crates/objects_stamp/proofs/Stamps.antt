@@ -30,21 +30,21 @@ use Rattle.objects_stamp.specs.declared.Finding.the-variants.{Right, Wro
 use Rattle.objects_stamp.specs.Chars.{allowsAll}
 use Rattle.objects_stamp.specs.Stamp.{Stamp, Optional, Lawful, stampData, stampPlaces}
 use Rattle.objects_stamp.specs.Rules.{stampForm, tableChars, charsOf, contentOk}
-use Rattle.objects_stamp.specs.Fault.{stampFault}
-use Rattle.objects_stamp.specs.Faults.{IsFirst, stampFaults}
+use Rattle.objects_stamp.specs.FirstFault.{stampFinding}
+use Rattle.objects_stamp.specs.Faults.{StampFaults}
 use Rattle.objects_stamp.specs.Loops.{ofFault, tells}
 use Rattle.objects_stamp.proofs.Telling.{wrong-right, tells-clean, told-first}
-use Rattle.objects_stamp.proofs.Sizes.{encode-most}
+use Rattle.objects_reader.proofs.Sizes.{encode-most}
 use Rattle.objects_stamp.proofs.Table.{values, fields, fieldsOf, encoded, leaves-are, places-are, proper, few, thirteen, flat, small, longest}
-use Rattle.objects_stamp.proofs.First.{fault-first, first-unique, reach, fault-near}
+use Rattle.objects_stamp.proofs.First.{IsFirst, fault-first, first-unique, reach, fault-near}
 
 empty : (w : List ℕ) (k : ℕ) → contentOk w k 0 0 ≡ true
 unfolding contentOk allowsAll sameBytes
 empty w k = by-cases (eqb k 1) (λ e. simp e) (λ e. simp e)
 
 -- what the code tells of its reading
-pub told-fault : (s : List ℕ) {q : Reading} {v : Finding} → q ≡ readAll stampForm s → v ≡ tells (contentOk s) q 13 0 → v ≡ stampFault s
-unfolding stampFault
+pub told-fault : (s : List ℕ) {q : Reading} {v : Finding} → q ≡ readAll stampForm s → v ≡ tells (contentOk s) q 13 0 → v ≡ stampFinding s
+unfolding stampFinding
 told-fault s e h = h ∙ ap (λ (r : Reading). tells (contentOk s) r 13 0) e ∙ told-first (contentOk s) (empty s) stampForm s small flat few
 
 -- ---- what is told where nothing is wrong
@@ -76,7 +76,7 @@ module _ (ok : ℕ → ℕ → ℕ → Bool) (q : Reading) where
 
 -- ---- contents of values that are noted
 
--- the value v of the k-th field, by the front of w
+-- the value v of the k-th field, by the copy-at-3 of w
 abbrev fits : List ℕ → ℕ → List ℕ → Bool
 fits w k v = allowsAll (charsOf k) v && ifElse (eqb k 1) (sameBytes v (part w 3 (length v))) true
 
@@ -85,13 +85,13 @@ unfolding contentOk
 content-is w q vs n k h = let p = n .each k h in rw (p .is, p .size) refl
 
 -- the copy of the State stands from byte 3 on
-front-of : (a e : List ℕ) → length a ≡ 3 → part (tlv 0x5F44 a ++ e) 3 3 ≡ a
+copy-of : (a e : List ℕ) → length a ≡ 3 → part (tlv 0x5F44 a ++ e) 3 3 ≡ a
 unfolding tagBytes lengthBytes
-front-of a e h = rw h at (object-value 0x5F44 a e)
+copy-of a e h = rw h at (object-value 0x5F44 a e)
 
-front : (v : Values stampForm) → length (v .0) ≡ 3 → part (encode stampForm v) 3 3 ≡ v .0
+copy-at-3 : (v : Values stampForm) → length (v .0) ≡ 3 → part (encode stampForm v) 3 3 ≡ v .0
 unfolding encode
-front v h = front-of (v .0) _ h
+copy-at-3 v h = copy-of (v .0) _ h
 
 optional : (c : Chars) (lo hi : ℕ) (o : Perhaps) → SizedP lo hi o → allowsAll c (valueOf o) ≡ true → Optional c lo hi o
 optional c lo hi absent z e = tt
@@ -111,7 +111,7 @@ module _ (w : List ℕ) (v : Values stampForm) (z : Sized stampForm v) (e : w �
       let d = z .2 .0 .1 in
       let n : length (v .1 .0 .0) ≡ 3 = omega arith in
       let s = same-equal _ _ (and-right (allowsAll (charsOf 1) (v .1 .0 .0)) _ (each 1 (omega arith))) in
-      s ∙ rw (n, e) (front v (omega arith))
+      s ∙ rw (n, e) (copy-at-3 v (omega arith))
 
   lawful-of : Lawful (fields v)
   unfolding Sized charsOf
@@ -138,8 +138,8 @@ module _ (w : List ℕ) (v : Values stampForm) (z : Sized stampForm v) (e : w �
       }
 
 -- what is right is the writing of a stamp that Table 11 allows
-pub stamp-sound : (s : List ℕ) → AllBytes s → stampFault s ≡ Right → (x : Stamp) × Lawful x × (s ≡ stampData x)
-unfolding stampFault
+pub stamp-sound : (s : List ℕ) → AllBytes s → stampFinding s ≡ Right → (x : Stamp) × Lawful x × (s ≡ stampData x)
+unfolding stampFinding
 stamp-sound s b e =
     let q = readAll stampForm s in
     let t = told-first (contentOk s) (empty s) stampForm s small flat few ∙ e in
@@ -270,7 +270,7 @@ module _ (x : Stamp) (a : Lawful x) where
       let n : length (x .state) ≡ 3 = omega arith in
       let d = a .copy .least in
       let g = a .copy .most in
-      rw (n, ← encoded x, front (values x) (omega arith), a .same) (same-refl (x .copy))
+      rw (n, ← encoded x, copy-at-3 (values x) (omega arith), a .same) (same-refl (x .copy))
 
   fitting : (k : ℕ) → k < 13 → fits (stampData x) k (getD (fieldsOf x) k []) ≡ true
   unfolding charsOf
@@ -282,8 +282,8 @@ module _ (x : Stamp) (a : Lawful x) where
   short = let e = ap length (encoded x) in let l = stamp-most in omega arith
 
   -- nothing is wrong with the writing of a stamp that Table 11 allows
-  pub stamp-complete : stampFault (stampData x) ≡ Right
-  unfolding stampFault
+  pub stamp-complete : stampFinding (stampData x) ≡ Right
+  unfolding stampFinding
   stamp-complete =
       let s = stampData x in
       let q = readAll stampForm s in
@@ -303,18 +303,18 @@ module _ (x : Stamp) (a : Lawful x) where
 -- ---- the first fault
 
 -- what is told is the first of everything that is wrong, and nothing else is
-pub stamp-first : (s : List ℕ) → IsFirst (stampFault s) (stampFaults s)
-unfolding stampFault
+pub stamp-first : (s : List ℕ) → IsFirst (stampFinding s) (StampFaults s)
+unfolding stampFinding
 stamp-first s = fault-first (contentOk s) stampForm 0 0 s
 
-pub stamp-only : (s : List ℕ) (v : Finding) → IsFirst v (stampFaults s) → v ≡ stampFault s
-stamp-only s v x = first-unique v (stampFault s) (stampFaults s) x (stamp-first s)
+pub stamp-only : (s : List ℕ) (v : Finding) → IsFirst v (StampFaults s) → v ≡ stampFinding s
+stamp-only s v x = first-unique v (stampFinding s) (StampFaults s) x (stamp-first s)
 
 near-is : reach stampForm < 4294967296
 unfolding reach
 near-is = omega arith
 
--- a fault stands near the front, however long the record is
-pub stamp-near : (s : List ℕ) (r : Reason) (at : ℕ) → AllBytes s → stampFault s ≡ Wrong r at → at < 4294967296
-unfolding stampFault
+-- a fault stands near the copy-at-3, however long the record is
+pub stamp-near : (s : List ℕ) (r : Reason) (at : ℕ) → AllBytes s → stampFinding s ≡ Wrong r at → at < 4294967296
+unfolding stampFinding
 stamp-near s r at b e = let k = fault-near (contentOk s) stampForm 0 0 s r at b e in let n = near-is in omega arith

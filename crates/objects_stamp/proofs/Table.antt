@@ -1,5 +1,6 @@
 -- Table 11 as the reader's form: its values are the fields of a stamp, its writings those of Stamp.antt, its places too, and it is a form
--- that the reader can go by. Exports `values`, `fields`, `encoded`, `leaves-are`, `places-are`, `proper`, `few`, `flat`, `small`, `longest`.
+-- that the reader can go by. Exports `values`, `fields`, `encoded`, `leaves-are`, `places-are`, `fieldsOf`, `proper`, `few`, `thirteen`,
+-- `flat`, `small`, `longest`.
 use Prim.Native.Nat.{ℕ, _≤_}
 use mathlib.Core.Path.{_≡_, refl}
 use mathlib.Core.List.{List, [], _∷_, append-nil}
@@ -11,7 +12,7 @@ use Rattle.objects_reader.specs.Encoding.{perhaps, valueOf, Values, encode, lea
 use Rattle.objects_stamp.specs.Rules.{stampForm}
 use Rattle.objects_stamp.specs.Stamp.{Stamp, stampData, stampPlaces}
 use Rattle.objects_stamp.proofs.Telling.{Small}
-use Rattle.objects_stamp.proofs.Sizes.{most}
+use Rattle.objects_reader.proofs.Sizes.{most}
 
 abbrev pub values : Stamp → Values stampForm
 values x = (x .copy, ((x .state, (x .visas, (x .date, (x .authority, (x .location, (x .inspector, (x .result, (x .mode, (x .duration, (x .conditions, tt)))))))))), (x .signature, (x .reference, tt))))

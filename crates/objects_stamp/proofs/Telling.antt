@@ -25,7 +25,7 @@ use Rattle.objects_stamp.specs.declared.Reason.{Reason}
 use Rattle.objects_stamp.specs.declared.Reason.the-variants.{WrongTag, WrongLength, WrongContent}
 use Rattle.objects_stamp.specs.declared.Finding.{Finding}
 use Rattle.objects_stamp.specs.declared.Finding.the-variants.{Right, Wrong}
-use Rattle.objects_stamp.specs.Fault.{andThen, objectFault, fieldFault, firstFault}
+use Rattle.objects_stamp.specs.FirstFault.{andThen, objectFault, fieldFault, firstFault}
 use Rattle.objects_stamp.specs.Loops.{ofFault, objectAt, tells}
 
 -- ---- where an object starts

@@ -21,7 +21,7 @@ use Rattle.objects_stamp.specs.declared.Finding.the-variants.{Right, Wro
 use Rattle.objects_stamp.specs.declared.StampRead.the-variants.{Told, ShortList}
 use Rattle.objects_stamp.specs.Stamp.{Stamp, Lawful, stampData, stampPlaces}
 use Rattle.objects_stamp.specs.Rules.{stampForm}
-use Rattle.objects_stamp.specs.Fault.{stampFault}
+use Rattle.objects_stamp.specs.FirstFault.{stampFinding}
 use Rattle.objects_stamp.specs.Read.{readStamp, placesWritten, readStampInto}
 use Rattle.objects_stamp.proofs.Stamps.{stamp-sound, stamp-complete, stamp-noted, stamp-most}
 
@@ -49,7 +49,7 @@ module _ (starts lens : List ℕ) where
   pairs-all k l m e p q = let h : k ≡ 13 = omega arith in rw (← h) e
 
 -- the reader's places q of a record s, of which v is told
-module _ (s : List ℕ) {v : Finding} {q : Reading} (a : v ≡ stampFault s) (b : q ≡ readAll stampForm s) where
+module _ (s : List ℕ) {v : Finding} {q : Reading} (a : v ≡ stampFinding s) (b : q ≡ readAll stampForm s) where
   -- the places of a stamp are small
   pub small-places : AllBytes s → v ≡ Right → ((k : ℕ) → getD (q .starts) k 0 < 4294967296) × ((k : ℕ) → getD (q .lens) k 0 < 4294967296)
   small-places g e =
@@ -96,4 +96,4 @@ module _ (ps : List ℕ) where
 
   pub into-kept : (s : List ℕ) → (drop 26 (readStampInto s ps) ≡ drop 26 ps) × (length (readStampInto s ps) ≡ length ps)
   unfolding readStampInto
-  into-kept s = by-cases (ltb (length ps) 26) (λ e. rw e (refl, refl)) (λ e. rw e (written-kept (stampFault s) (readAll stampForm s)))
+  into-kept s = by-cases (ltb (length ps) 26) (λ e. rw e (refl, refl)) (λ e. rw e (written-kept (stampFinding s) (readAll stampForm s)))

@@ -6,7 +6,7 @@ use lib.Dec.{leb, eqb}
 use Rattle.objects_stamp.specs.declared.chars.Chars.{Chars}
 use Rattle.objects_stamp.specs.declared.chars.Chars.the-variants.{Letters, Digits, Text, Binary, Reference}
 
--- [TR2]
+-- lo to hi [TR2]
 abbrev pub between : (lo hi b : ℕ) → Bool
 between lo hi b = leb lo b && leb b hi
 

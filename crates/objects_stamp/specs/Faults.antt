@@ -1,4 +1,4 @@
--- Everything that is wrong with a record, be it the first thing or not.
+-- What is wrong with a record: every fault of every object whose place can be told, the first and the others.
 use Prim.Native.Nat.{ℕ, suc, _+_, _≤_, _<_}
 use mathlib.Core.Path.{_≡_}
 use mathlib.Core.List.{List}
@@ -12,11 +12,15 @@ use Rattle.objects_reader.specs.declared.head.Head.{Head}
 use Rattle.objects_reader.specs.declared.head.Head.the-variants.{Body, NoTag, NoLength}
 use Rattle.objects_stamp.specs.declared.Reason.{Reason}
 use Rattle.objects_stamp.specs.declared.Reason.the-variants.{WrongTag, WrongLength, WrongContent}
-use Rattle.objects_stamp.specs.declared.Finding.{Finding}
-use Rattle.objects_stamp.specs.declared.Finding.the-variants.{Right, Wrong}
 use Rattle.objects_stamp.specs.Rules.{stampForm, contentOk}
 
--- what may be wrong: `F r p` says that at the place p something is, for the reason r [TR7]
+-- the number of a reason: tag, length, content [TR9] [C2]
+abbrev pub reasonNumber : Reason → ℕ
+reasonNumber WrongTag = 1
+reasonNumber WrongLength = 2
+reasonNumber WrongContent = 3
+
+-- what is wrong: `F r p` says that something is, for the reason r, with the object at the place p [TR7]
 abbrev pub Faults : Type 1
 Faults = Reason → ℕ → Type 0
 
@@ -24,26 +28,24 @@ Faults = Reason → ℕ → Type 0
 abbrev pub OnlyAt : Reason → ℕ → Faults
 OnlyAt a at r p = (r ≡ a) × (p ≡ at)
 
--- nothing but contents is wrong [TR7]
-abbrev pub ContentsOnly : Faults → Type 0
-ContentsOnly F = (r : Reason) (p : ℕ) → F r p → r ≡ WrongContent
-
--- A field that should stand at `at`. Where its content is wrong, what follows can be wrong too; where its tag or length is, nothing that
--- follows can be told. [TR7]
+-- A field that should stand at `at`: its tag does not, or it has no length that can be read, and then what follows cannot be told; or it
+-- stands there, and its size can be wrong, its content, and what follows. [TR7]
 abbrev pub FieldFaults : Head → (lo hi at : ℕ) → (content : ℕ → ℕ → Bool) → (behind : ℕ → Faults) → (missing : Faults) → Faults
 FieldFaults NoTag lo hi at content behind missing r p = missing r p
 FieldFaults NoLength lo hi at content behind missing r p = OnlyAt WrongLength at r p
 FieldFaults (Body start len) lo hi at content behind missing r p =
     ((ofSize lo hi len true false ≡ false) × OnlyAt WrongLength at r p)
-    ⊎ ((ofSize lo hi len true false ≡ true) × (((content (at + start) len ≡ false) × OnlyAt WrongContent at r p) ⊎ behind (start + len) r p))
+    ⊎ (((content (at + start) len ≡ false) × OnlyAt WrongContent at r p)
+    ⊎ behind (start + len) r p)
 
--- An object of objects: what is wrong inside, and where nothing but contents is, what is wrong behind. [TR7]
+-- an object of objects: what is wrong inside, and what is wrong behind [TR7]
 abbrev pub NestFaults : Head → (at : ℕ) → (within : ℕ → ℕ → Faults) → (behind : ℕ → Faults) → Faults
 NestFaults NoTag at within behind r p = OnlyAt WrongTag at r p
 NestFaults NoLength at within behind r p = OnlyAt WrongLength at r p
-NestFaults (Body start len) at within behind r p = within start len r p ⊎ (ContentsOnly (within start len) × behind (start + len) r p)
+NestFaults (Body start len) at within behind r p = within start len r p ⊎ behind (start + len) r p
 
--- everything that is wrong with s, which starts at `at` in the record and whose first field is the k-th of the table [TR7]
+-- what is wrong with s, which starts at `at` in the record and whose first field is the k-th of the table; behind the last object nothing
+-- may stand [TR7]
 unfoldable pub FormFaults : (ok : ℕ → ℕ → ℕ → Bool) → Form → (k at : ℕ) → List ℕ → Faults
 FormFaults ok done k at s r p = (1 ≤ length s) × OnlyAt WrongTag at r p
 FormFaults ok (plain tag lo hi f) k at s r p =
@@ -54,18 +56,13 @@ FormFaults ok (nested tag g f) k at s r p =
     NestFaults (headOf tag s) at (λ start len. FormFaults ok g k (at + start) (take len (drop start s))) (λ n. FormFaults ok f (k + leafCount g) (at + n) (drop n s)) r p
 
 -- with a record, by Table 11 [TR7]
-abbrev pub stampFaults : List ℕ → Faults
-stampFaults s = FormFaults (contentOk s) stampForm 0 0 s
+abbrev pub StampFaults : List ℕ → Faults
+StampFaults s = FormFaults (contentOk s) stampForm 0 0 s
 
 -- nothing is wrong [TR8]
 abbrev pub NoFault : Faults → Type 0
 NoFault F = (r : Reason) (p : ℕ) → F r p → ⊥
 
--- r at p is one of the faults, and every other stands behind it [TR8]
+-- r at p is one of the faults, and every other one stands behind it or, at the same place, has no smaller number [TR8]
 abbrev pub FirstOf : Faults → Reason → ℕ → Type 0
-FirstOf F r p = F r p × ((r′ : Reason) (p′ : ℕ) → F r′ p′ → (p < p′) ⊎ ((r′ ≡ r) × (p′ ≡ p)))
-
--- what is found tells the first of the faults, or that there is none [TR8]
-unfoldable pub IsFirst : Finding → Faults → Type 0
-IsFirst Right F = NoFault F
-IsFirst (Wrong r p) F = FirstOf F r p
+FirstOf F r p = F r p × ((r′ : Reason) (p′ : ℕ) → F r′ p′ → (p < p′) ⊎ ((p ≡ p′) × (reasonNumber r ≤ reasonNumber r′)))

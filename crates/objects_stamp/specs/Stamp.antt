@@ -63,16 +63,17 @@ pub record Piece : Type 0 where
   pub tag : ℕ
   pub value : Perhaps
 
+-- [TR5]
 abbrev pub piece : ℕ → Perhaps → Piece
 piece t o = record { tag = t; value = o }
 
--- before `73`, inside it, and behind it [TR1] [TR5]
-abbrev pub front : Stamp → List Piece
-front x = piece 0x5F44 (present (x .copy)) ∷ []
+-- before `73` [TR1] [TR5]
+abbrev pub copyPiece : Stamp → List Piece
+copyPiece x = piece 0x5F44 (present (x .copy)) ∷ []
 
--- [TR1] [TR5]
-abbrev pub inside : Stamp → List Piece
-inside x =
+-- inside `73`, the part that is signed [TR1] [TR5]
+abbrev pub signedPieces : Stamp → List Piece
+signedPieces x =
     piece 0x5F44 (present (x .state))
     ∷ piece 0x5F4C (x .visas)
     ∷ piece 0x5F45 (present (x .date))
@@ -85,9 +86,9 @@ inside x =
     ∷ piece 0x5F4E (x .conditions)
     ∷ []
 
--- [TR1] [TR5]
-abbrev pub behindIt : Stamp → List Piece
-behindIt x = piece 0x5F37 (present (x .signature)) ∷ piece 0x5F38 (present (x .reference)) ∷ []
+-- behind `73` [TR1] [TR5]
+abbrev pub lastPieces : Stamp → List Piece
+lastPieces x = piece 0x5F37 (present (x .signature)) ∷ piece 0x5F38 (present (x .reference)) ∷ []
 
 -- objects one behind the other, an absent one left out [TR5]
 abbrev pub pieceData : List Piece → List ℕ
@@ -96,7 +97,7 @@ pieceData (p ∷ ps) = perhaps (p .tag) (p .value) ++ pieceData ps
 
 -- the bytes of a stamp [TR5]
 unfoldable pub stampData : Stamp → List ℕ
-stampData x = pieceData (front x) ++ (tlv 0x73 (pieceData (inside x)) ++ pieceData (behindIt x))
+stampData x = pieceData (copyPiece x) ++ (tlv 0x73 (pieceData (signedPieces x)) ++ pieceData (lastPieces x))
 
 -- ---- where they stand
 
@@ -108,8 +109,8 @@ piecePlaces at (p ∷ ps) = placeOf at (p .tag) (p .value) ++ piecePlaces (at + 
 -- of a stamp: 26 numbers [TR6]
 unfoldable pub stampPlaces : Stamp → List ℕ
 stampPlaces x =
-    let a = length (pieceData (front x)) in
-    let n = length (pieceData (inside x)) in
-    piecePlaces 0 (front x)
-    ++ (piecePlaces (a + (length (tagBytes 0x73) + length (lengthBytes n))) (inside x)
-    ++ piecePlaces (a + length (tlv 0x73 (pieceData (inside x)))) (behindIt x))
+    let a = length (pieceData (copyPiece x)) in
+    let n = length (pieceData (signedPieces x)) in
+    piecePlaces 0 (copyPiece x)
+    ++ (piecePlaces (a + (length (tagBytes 0x73) + length (lengthBytes n))) (signedPieces x)
+    ++ piecePlaces (a + length (tlv 0x73 (pieceData (signedPieces x)))) (lastPieces x))

@@ -11,7 +11,7 @@ pub enum Chars {
     Reference,
 }
 
-fn within(b: u8, lo: u8, hi: u8) -> bool
+fn between(lo: u8, hi: u8, b: u8) -> bool
     ensures { λ r. ⌜ r ≡ between lo hi b ⌝ }
 {
     (lo <= b) & (b <= hi)
@@ -20,13 +20,13 @@ fn within(b: u8, lo: u8, hi: u8) -> bool
 fn letter(b: u8) -> bool
     ensures { λ r. ⌜ r ≡ isLetter b ⌝ }
 {
-    within(b, 0x41, 0x5A) | within(b, 0x61, 0x7A)
+    between(0x41, 0x5A, b) | between(0x61, 0x7A, b)
 }
 
 fn digit(b: u8) -> bool
     ensures { λ r. ⌜ r ≡ isDigit b ⌝ }
 {
-    within(b, 0x30, 0x39)
+    between(0x30, 0x39, b)
 }
 
 fn special(b: u8) -> bool
@@ -43,7 +43,7 @@ fn allows(c: Chars, b: u8) -> bool
         Chars::Digits => digit(b),
         Chars::Text => letter(b) | (digit(b) | special(b)),
         Chars::Binary => true,
-        Chars::Reference => within(b, 0x01, 0xFE),
+        Chars::Reference => between(0x01, 0xFE, b),
     }
 }
 

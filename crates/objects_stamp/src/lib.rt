@@ -82,7 +82,8 @@ fn chars_of(k: usize) -> Chars
     table[k]
 }
 
-// Whether the k-th field may be the len bytes of the record from start on. The State inside `73` is also the copy at the front.
+// Whether the k-th field may be the len bytes of the record from start on. The State inside `73` is also the copy, whose value stands
+// behind two bytes of tag and one of length.
 fn content_ok(s: &[u8], k: usize, start: usize, len: usize) -> bool
     requires { ⌜ k < 13 ⌝ }
     ensures { λ r. ⌜ r ≡ contentOk (now (s .entry)) k start len ⌝ }
@@ -97,7 +98,8 @@ fn content_ok(s: &[u8], k: usize, start: usize, len: usize) -> bool
     true
 }
 
-// Where the object starts whose value is the len bytes from start on.
+// Where the object starts whose value is the len bytes from start on: before two bytes of tag and, up to 127 bytes of value, one of length, else
+// two. No field has 256 bytes.
 fn object_at(start: usize, len: usize) -> usize
     ensures { λ r. ⌜ r ≡ objectAt start len ⌝ }
 {

@@ -37,7 +37,7 @@ pub(crate) fn all() {
         b"  certificate 07 other.card   looks for it on the card, and then in the card image of a file\n",
     );
     program_console::word(
-        b"  stamp 07                    reads record 07 of EntryRecords as a stamp; `stamp 07 exit` one of ExitRecords\n",
+        b"  stamp 07                    reads record 07, in hexadecimal, of EntryRecords as a stamp; `stamp 07 exit` of ExitRecords\n",
     );
     program_console::word(b"  move new.card 0101 100 0102 50 011A 40\n");
     program_console::word(

@@ -6,7 +6,7 @@ use crate::status::Ended;
 use crate::text;
 use program_console::result;
 use store_records::body;
-ghost use Prim.Native.Nat.{_≤_, _<_};
+ghost use Prim.Native.Nat.{_≤_};
 ghost use lib.ListN.{length};
 
 // How many bytes stand in a row.
@@ -36,7 +36,7 @@ fn is_binary(k: usize) -> bool {
     k == 9 || 11 <= k
 }
 
-// A value: text as it stands, other bytes in hexadecimal, and a word where there is none.
+// A value: text between quotation marks, which no text has, other bytes in hexadecimal, and a word where there is none.
 fn value(k: usize, v: &[u8]) {
     if v.len() == 0 {
         program_console::word(b" (absent)");
@@ -46,8 +46,9 @@ fn value(k: usize, v: &[u8]) {
         program_console::spell(v);
         return;
     }
-    program_console::word(b" ");
+    program_console::word(b" \"");
     program_console::word(v);
+    program_console::word(b"\"");
 }
 
 // The fields, a line each.
@@ -71,10 +72,10 @@ fn reason(n: u64) {
     match n {
         1 => program_console::word(b"wrong tag: an object is missing, out of order, or too many"),
         2 => program_console::word(
-            b"wrong length: past the end, not in its shortest form, or none that Table 11 allows",
+            b"wrong length: none, past the end, not in its shortest form, or not allowed by Table 11",
         ),
         _ => program_console::word(
-            b"wrong content: none that Table 11 allows, or not the State that stands first",
+            b"wrong content: not allowed by Table 11, or not the State that stands first",
         ),
     }
 }
@@ -88,18 +89,27 @@ fn arrow(at: usize, why: u64) {
     program_console::end();
 }
 
+// A row of bytes.
+fn line_of(bytes: &[u8]) {
+    if 0 < bytes.len() {
+        program_console::word(b" ");
+    }
+    program_console::spell(bytes);
+    program_console::end();
+}
+
 // The row of bytes with this number, and the arrow where the fault is in it. Behind the last byte there is a row only where the fault is there.
+// A record has fewer rows than 2^32, so the remainder changes nothing; it keeps the product small.
 fn row(record: &[u8], n: usize, at: usize, why: u64) {
     let bytes = base::part(record, n % 4294967296 * ROW, ROW);
+    let here = at / ROW == n;
     if bytes.len() == 0 {
-        if at / ROW != n {
+        if !here {
             return;
         }
     }
-    program_console::word(b" ");
-    program_console::spell(bytes);
-    program_console::end();
-    if at / ROW == n {
+    line_of(bytes);
+    if here {
         arrow(at, why);
     }
 }

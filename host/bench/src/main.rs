@@ -220,8 +220,7 @@ fn stamp_times() {
 }
 
 fn stack_use() {
-    println!("\n| call of malquindo_command | stack (bytes, without the caller's arguments and return address) |");
-    println!("|---|---|");
+    stack_head("malquindo_command");
     for case in [
         cases::search_long(391),
         cases::search_long(980),
@@ -234,20 +233,21 @@ fn stack_use() {
         cases::append_record(),
         cases::validation(),
     ] {
-        println!(
-            "| {}; {} | {} |",
-            case.name,
-            case.held,
-            stack::of_case(&case)
-        );
+        stack_row(&case.name, &case.held, stack::of_case(&case));
     }
+    stack_head("malquindo_move");
     let case = cases::move_to_the_same_sizes();
-    println!("\n| call of malquindo_move | stack (bytes, without the caller's arguments and return address) |");
+    stack_row(&case.name, &case.held, stack::of_move(&case));
+    stack_head("malquindo_stamp_read");
+    let [longest, ..] = cases::stamps();
+    stack_row(&longest.name, &longest.held, stack::of_stamp(&longest));
+}
+
+fn stack_head(function: &str) {
+    println!("\n| call of {function} | stack (bytes, without the caller's arguments and return address) |");
     println!("|---|---|");
-    println!(
-        "| {}; {} | {} |",
-        case.name,
-        case.held,
-        stack::of_move(&case)
-    );
+}
+
+fn stack_row(name: &str, held: &str, bytes: usize) {
+    println!("| {name}; {held} | {bytes} |");
 }

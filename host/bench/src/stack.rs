@@ -1,7 +1,8 @@
 //! The stack one call uses, measured: the call runs on a painted stack of its own, and the lowest
 //! byte that lost its paint tells how deep it went.
 
-use crate::cases::{Case, Move};
+use crate::cases::{Case, Move, Stamp};
+use compare::stamp::NUMBERS;
 use std::arch::asm;
 
 const STACK_LEN: usize = 1 << 20;
@@ -11,6 +12,7 @@ const PAINTS: [u8; 2] = [0xA5, 0x3C];
 type Command =
     unsafe extern "C" fn(*mut u8, usize, *mut u8, usize, *const u8, usize, *mut u8, usize) -> u64;
 type MoveCard = unsafe extern "C" fn(*const u8, usize, *const u8, usize, *mut u8, usize) -> u64;
+type ReadStamp = unsafe extern "C" fn(*const u8, usize, *mut u32, usize) -> u64;
 /// Makes the call that it is given.
 type Trampoline<C> = unsafe extern "C" fn(*mut C);
 
@@ -29,6 +31,14 @@ struct MoveCall<'a> {
     function: MoveCard,
     case: &'a Move,
     target: Vec<u8>,
+    result: u64,
+}
+
+/// What the trampoline of reading a stamp hands on.
+struct StampCall<'a> {
+    function: ReadStamp,
+    case: &'a Stamp,
+    places: [u32; NUMBERS],
     result: u64,
 }
 
@@ -78,6 +88,27 @@ fn move_depth(case: &Move, function: MoveCard, length: usize) -> usize {
     deepest.max().unwrap_or(0)
 }
 
+/// The same of reading a stamp.
+pub fn of_stamp(case: &Stamp) -> usize {
+    let used = stamp_depth(case, malquindo_sys::malquindo_stamp_read, case.result);
+    used - stamp_depth(case, no_stamp, 0)
+}
+
+fn stamp_depth(case: &Stamp, function: ReadStamp, result: u64) -> usize {
+    let deepest = PAINTS.iter().map(|paint| {
+        let mut call = StampCall {
+            function,
+            case,
+            places: [0; NUMBERS],
+            result: 0,
+        };
+        let depth = painted_depth(*paint, stamp_trampoline, &mut call);
+        assert_eq!(call.result, result, "{}", case.name);
+        depth
+    });
+    deepest.max().unwrap_or(0)
+}
+
 /// Takes what `malquindo_command` takes and does nothing.
 unsafe extern "C" fn nothing(
     _: *mut u8,
@@ -101,6 +132,11 @@ unsafe extern "C" fn no_move(
     _: *mut u8,
     _: usize,
 ) -> u64 {
+    0
+}
+
+/// Takes what `malquindo_stamp_read` takes and does nothing.
+unsafe extern "C" fn no_stamp(_: *const u8, _: usize, _: *mut u32, _: usize) -> u64 {
     0
 }
 
@@ -142,6 +178,24 @@ unsafe extern "C" fn move_trampoline(call: *mut MoveCall<'_>) {
             call.case.list.len(),
             call.target.as_mut_ptr(),
             call.target.len(),
+        )
+    };
+}
+
+/// Calls the function with the stamp's record and a list for its places.
+///
+/// # Safety
+/// `call` points to a call that nothing else uses meanwhile.
+unsafe extern "C" fn stamp_trampoline(call: *mut StampCall<'_>) {
+    // SAFETY: the caller says so.
+    let call = unsafe { &mut *call };
+    // SAFETY: pointers and lengths are those of a record and a list that do not overlap.
+    call.result = unsafe {
+        (call.function)(
+            call.case.record.as_ptr(),
+            call.case.record.len(),
+            call.places.as_mut_ptr(),
+            call.places.len(),
         )
     };
 }

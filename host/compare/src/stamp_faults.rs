@@ -182,8 +182,6 @@ fn wrong_tag(
     fault: Fault,
 ) -> Option<(Container, usize)> {
     let container = place.container();
-    let end = matches!(place, Place::SignedEnd | Place::End);
-    let optional = place.is_optional();
     let list = draft.list(container)?;
     match fault {
         Foreign => list.insert(before, foreign()),
@@ -193,7 +191,23 @@ fn wrong_tag(
             list.truncate(before);
             list.push(torn(&[0x5F]));
         }
-        _ if end => return None,
+        _ if matches!(place, Place::SignedEnd | Place::End) => return None,
+        _ => return wrong_tag_of_object(draft, place, before, fault),
+    }
+    Some((container, before))
+}
+
+/// The same of faults that need an object at this place.
+fn wrong_tag_of_object(
+    draft: &mut Draft,
+    place: Place,
+    before: usize,
+    fault: Fault,
+) -> Option<(Container, usize)> {
+    let container = place.container();
+    let optional = place.is_optional();
+    let list = draft.list(container)?;
+    match fault {
         Missing if optional => return None,
         Missing => drop(list.remove(before)),
         // Behind these all are optional.

@@ -140,13 +140,29 @@ fn list_form(entries: usize) -> usize {
 
 impl fmt::Display for StampTally {
     fn fmt(&self, f: &mut fmt::Formatter<'_>) -> fmt::Result {
+        self.write_results(f)?;
+        self.write_places(f)?;
+        self.write_faults(f)?;
+        self.write_lists(f)?;
+        self.write_stamps(f)
+    }
+}
+
+/// The tables, one after the other.
+impl StampTally {
+    /// What came of the reads.
+    fn write_results(&self, f: &mut fmt::Formatter<'_>) -> fmt::Result {
         writeln!(f, "\n| stamp | times |\n|---|---|")?;
         writeln!(f, "| accepted | {} |", self.accepted())?;
         for (reason, _) in WRONG {
             writeln!(f, "| {} | {} |", reason.name(), self.reason(reason))?;
         }
         let short = self.count(|sort| sort == Sort::ShortList);
-        writeln!(f, "| refusal 15 | {short} |")?;
+        writeln!(f, "| refusal 15 | {short} |")
+    }
+
+    /// Faults by their place.
+    fn write_places(&self, f: &mut fmt::Formatter<'_>) -> fmt::Result {
         write!(f, "\n| fault at | tag: missing or too many | ")?;
         writeln!(f, "tag: stands elsewhere | length | content |")?;
         writeln!(f, "|---|---|---|---|---|")?;
@@ -157,6 +173,11 @@ impl fmt::Display for StampTally {
             let name = place.name();
             writeln!(f, "| {name} | {tag} | {elsewhere} | {length} | {content} |")?;
         }
+        Ok(())
+    }
+
+    /// Faults by what is wrong.
+    fn write_faults(&self, f: &mut fmt::Formatter<'_>) -> fmt::Result {
         writeln!(f, "\n| fault | what | times |\n|---|---|---|")?;
         for (reason, all) in WRONG {
             for wrong in all {
@@ -164,10 +185,19 @@ impl fmt::Display for StampTally {
                 writeln!(f, "| {reason} | {name} | {} |", self.wrong(*wrong))?;
             }
         }
+        Ok(())
+    }
+
+    fn write_lists(&self, f: &mut fmt::Formatter<'_>) -> fmt::Result {
         writeln!(f, "\n| list | times |\n|---|---|")?;
         for (form, count) in LISTS.iter().zip(self.lists) {
             writeln!(f, "| {form} | {count} |")?;
         }
+        Ok(())
+    }
+
+    /// Which stamps were accepted.
+    fn write_stamps(&self, f: &mut fmt::Formatter<'_>) -> fmt::Result {
         let combinations = self.combinations.iter().filter(|count| **count > 0).count();
         let seldom = self.combinations.iter().min().copied().unwrap_or(0);
         let [shortest, longest] = self.lengths;

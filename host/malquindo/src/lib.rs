@@ -42,7 +42,7 @@ mod index;
 mod stamp;
 
 pub use index::Index;
-pub use stamp::{read_stamp, Field, Reason, Stamp, StampFault};
+pub use stamp::{read_stamp, Stamp, StampFault, StampField, StampReason};
 
 use std::fmt;
 use std::ops::Range;
@@ -73,7 +73,8 @@ impl Session {
     }
 }
 
-/// Why a call was refused. [`Refusal::number`] is the number that the library answers.
+/// Why a call was refused. [`Refusal::number`] is the number that the library answers. The header
+/// has one more, 15, for a list that is too short for a stamp; that of [`read_stamp`] never is.
 #[derive(Clone, Copy, Debug, PartialEq, Eq)]
 pub enum Refusal {
     /// 1: the response buffer is shorter than [`RESPONSE_LEN`] bytes.
@@ -96,8 +97,6 @@ pub enum Refusal {
     SmallRoom,
     /// 13: the target is shorter than the new image.
     ShortTarget,
-    /// 15: the list has too few entries for a stamp's places. That of [`read_stamp`] has enough.
-    ShortList,
     /// Any other number. The library that this crate was written for answers none; one of
     /// another version may.
     Unknown(u32),
@@ -117,7 +116,6 @@ impl Refusal {
             Self::MissingKind => 11,
             Self::SmallRoom => 12,
             Self::ShortTarget => 13,
-            Self::ShortList => 15,
             Self::Unknown(number) => number,
         }
     }
@@ -135,7 +133,6 @@ impl Refusal {
             11 => Self::MissingKind,
             12 => Self::SmallRoom,
             13 => Self::ShortTarget,
-            15 => Self::ShortList,
             other => Self::Unknown(other),
         }
     }
@@ -154,7 +151,6 @@ impl fmt::Display for Refusal {
             Self::MissingKind => "a file of the old card has no room in the list",
             Self::SmallRoom => "a room is too small for its content",
             Self::ShortTarget => "the target is shorter than the new image",
-            Self::ShortList => "the list is too short for a stamp's places",
             Self::Unknown(number) => return write!(f, "refusal {number}, which is not known here"),
         })
     }
@@ -360,7 +356,7 @@ mod tests {
         for number in 1..20 {
             let refusal = accepted(u64::from(number) << 32).unwrap_err();
             assert_eq!(refusal.number(), number);
-            let known = matches!(number, 1..=4 | 6 | 9..=13 | 15);
+            let known = matches!(number, 1..=4 | 6 | 9..=13);
             assert_eq!(refusal == Refusal::Unknown(number), !known);
         }
     }

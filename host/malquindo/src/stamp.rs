@@ -3,40 +3,41 @@
 use std::fmt;
 
 /// How many numbers tell the places of a stamp's fields: two for each.
-const PLACES: usize = 2 * Field::ALL.len();
+const PLACES: usize = 2 * StampField::ALL.len();
 
 /// A field of a stamp. The order is that of Table 11.
 #[derive(Clone, Copy, Debug, PartialEq, Eq, PartialOrd, Ord, Hash)]
-pub enum Field {
-    /// The State before the signed part, which is the same as the one inside it.
+pub enum StampField {
+    /// The State before the signed part (the object 73). It is the same as the one inside.
     StateCopy,
-    /// 3 letters.
+    /// The State inside the signed part. 3 letters.
     State,
     /// Approvals, refusals and revocations of visas; optional. 1 to 50 characters.
     Visas,
-    /// 8 digits.
+    /// The date. 8 digits, which the library looks up in no calendar.
     Date,
-    /// 1 to 10 characters.
+    /// The inspection authority. 1 to 10 characters.
     Authority,
-    /// 1 to 10 characters.
+    /// The inspection location. 1 to 10 characters.
     Location,
-    /// 1 to 20 characters.
+    /// The inspector. 1 to 20 characters.
     Inspector,
     /// The result of the inspection; optional. 1 to 50 characters.
     Result,
-    /// The mode of travel; optional. 1 letter.
+    /// The mode of travel; optional. 1 letter, any.
     Mode,
-    /// The duration of stay; optional. 1 or 2 bytes.
+    /// The duration of stay; optional. 1 or 2 bytes: days, the high byte first. Table 11's example
+    /// 00FF is 255. The library does not look into it.
     Duration,
     /// Conditions that the holder has to observe; optional. 1 to 50 characters.
     Conditions,
-    /// 1 to 140 bytes.
+    /// The signature over the signed part. 1 to 140 bytes, which the library does not check.
     Signature,
     /// The number of a travel certificate. 1 byte, 01 to FE.
     Reference,
 }
 
-impl Field {
+impl StampField {
     /// All fields in their order.
     pub const ALL: [Self; 13] = [
         Self::StateCopy,
@@ -63,7 +64,7 @@ impl Field {
     }
 }
 
-impl fmt::Display for Field {
+impl fmt::Display for StampField {
     fn fmt(&self, f: &mut fmt::Formatter<'_>) -> fmt::Result {
         f.write_str(match self {
             Self::StateCopy => "State (copy)",
@@ -83,35 +84,54 @@ impl fmt::Display for Field {
     }
 }
 
-/// Why a record is no stamp. [`Reason::number`] is the number that the library answers; it is none
-/// of the numbers of a [`Refusal`](crate::Refusal).
+/// Why a record is no stamp. [`StampReason::number`] is the number that the library answers. A
+/// reason is no [`Refusal`](crate::Refusal), though some numbers are the same.
 #[derive(Clone, Copy, Debug, PartialEq, Eq)]
-pub enum Reason {
-    /// 1: an object is missing, out of order or too many.
+pub enum StampReason {
+    /// 1, a wrong tag: an object is missing, out of order or too many; or half a tag stands at the
+    /// end of its container.
     Tag,
-    /// 2: a length goes too far, is not the shortest form, or is one that the table does not allow.
+    /// 2, a wrong length: there is no length byte, or not all of them; the length has a form other
+    /// than the three, or not the shortest; it goes past the end of its container, or is one that
+    /// the table does not allow.
     Length,
-    /// 3: a value has a byte that the table does not allow, or the two States differ.
+    /// 3, a wrong content: a value has a byte that the table does not allow; or the two States
+    /// differ, which is told at the one inside 73.
     Content,
+    /// Any other number. The library that this crate was written for answers none; one of
+    /// another version may.
+    Unknown(u32),
 }
 
-impl Reason {
+impl StampReason {
     /// The number that the library answers for this reason.
     pub fn number(self) -> u32 {
         match self {
             Self::Tag => 1,
             Self::Length => 2,
             Self::Content => 3,
+            Self::Unknown(number) => number,
+        }
+    }
+
+    /// The reason of this number, which is not 0.
+    fn of_number(number: u32) -> Self {
+        match number {
+            1 => Self::Tag,
+            2 => Self::Length,
+            3 => Self::Content,
+            other => Self::Unknown(other),
         }
     }
 }
 
-impl fmt::Display for Reason {
+impl fmt::Display for StampReason {
     fn fmt(&self, f: &mut fmt::Formatter<'_>) -> fmt::Result {
         f.write_str(match self {
             Self::Tag => "an object is missing, out of order or too many",
             Self::Length => "a length goes too far, is not the shortest form or is not allowed",
             Self::Content => "a value is not allowed, or the two States differ",
+            Self::Unknown(number) => return write!(f, "reason {number}, which is not known here"),
         })
     }
 }
@@ -121,7 +141,8 @@ impl fmt::Display for Reason {
 pub struct StampFault {
     /// Where the object at fault begins in the record, or where a missing one should stand.
     pub at: usize,
-    pub reason: Reason,
+    /// What is wrong there.
+    pub reason: StampReason,
 }
 
 impl fmt::Display for StampFault {
@@ -144,7 +165,7 @@ pub struct Stamp<'r> {
 /// and ExitRecords hold them.
 ///
 /// ```
-/// use malquindo::{Field, Reason};
+/// use malquindo::{StampField, StampReason};
 ///
 /// let mut record = b"\x5F\x44\x03UTO\x73\x23\x5F\x44\x03UTO\x5F\x45\x0820261116\
 ///     \x5F\x4B\x03UBP\x5F\x46\x03AIR\x5F\x4A\x03I07\
@@ -154,41 +175,45 @@ pub struct Stamp<'r> {
 /// assert_eq!(stamp.state(), b"UTO");
 /// assert_eq!(stamp.date(), b"20261116");
 /// assert_eq!(stamp.reference(), 2);
-/// assert_eq!(stamp.value(Field::Inspector), Some(&b"I07"[..]));
+/// assert_eq!(stamp.value(StampField::Inspector), Some(&b"I07"[..]));
 /// assert_eq!(stamp.mode(), None);
 ///
 /// // The State before the signed part is another.
 /// record[3] = b'A';
 /// let fault = malquindo::read_stamp(&record).unwrap_err();
-/// assert_eq!((fault.reason, fault.at), (Reason::Content, 8));
+/// assert_eq!((fault.reason, fault.at), (StampReason::Content, 8));
 /// # Ok::<(), malquindo::StampFault>(())
 /// ```
 pub fn read_stamp(record: &[u8]) -> Result<Stamp<'_>, StampFault> {
     let mut places = [0; PLACES];
     let result = malquindo_sys::stamp_read(record, &mut places);
-    let reason = match (result >> 32) as u32 {
-        0 => return Ok(Stamp { record, places }),
-        1 => Reason::Tag,
-        2 => Reason::Length,
-        3 => Reason::Content,
-        other => panic!("reason {other}, which is not known here"),
-    };
-    let at = result as u32 as usize;
-    Err(StampFault { at, reason })
+    match fault_of(result) {
+        None => Ok(Stamp { record, places }),
+        Some(fault) => Err(fault),
+    }
+}
+
+/// The fault that a result tells; none where the record is a stamp.
+fn fault_of(result: u64) -> Option<StampFault> {
+    let number = (result >> 32) as u32;
+    (number != 0).then(|| StampFault {
+        at: result as u32 as usize,
+        reason: StampReason::of_number(number),
+    })
 }
 
 impl<'r> Stamp<'r> {
     /// The value of a field; none where an optional one is absent.
-    pub fn value(&self, field: Field) -> Option<&'r [u8]> {
+    pub fn value(&self, field: StampField) -> Option<&'r [u8]> {
         let [at, length] = [0, 1].map(|number| self.places[2 * field as usize + number] as usize);
-        // No value has no byte.
+        // A value has at least one byte.
         (length != 0).then(|| &self.record[at..at + length])
     }
 
     /// The fields that the stamp has, in their order, with their values.
-    pub fn fields(&self) -> impl Iterator<Item = (Field, &'r [u8])> {
+    pub fn fields(&self) -> impl Iterator<Item = (StampField, &'r [u8])> {
         let stamp = *self;
-        Field::ALL
+        StampField::ALL
             .into_iter()
             .filter_map(move |field| Some((field, stamp.value(field)?)))
     }
@@ -198,64 +223,69 @@ impl<'r> Stamp<'r> {
         self.record
     }
 
-    /// The State, 3 letters.
+    /// The State, 3 letters. The copy before the signed part is the same.
     pub fn state(&self) -> &'r [u8] {
-        self.mandatory(Field::State)
+        self.mandatory(StampField::State)
     }
 
-    /// Approvals, refusals and revocations of visas.
+    /// Approvals, refusals and revocations of visas, 1 to 50 characters.
     pub fn visas(&self) -> Option<&'r [u8]> {
-        self.value(Field::Visas)
+        self.value(StampField::Visas)
     }
 
-    /// The date, 8 digits.
+    /// The date, 8 digits. The library looks it up in no calendar.
     pub fn date(&self) -> &'r [u8] {
-        self.mandatory(Field::Date)
+        self.mandatory(StampField::Date)
     }
 
+    /// The inspection authority, 1 to 10 characters.
     pub fn authority(&self) -> &'r [u8] {
-        self.mandatory(Field::Authority)
+        self.mandatory(StampField::Authority)
     }
 
+    /// The inspection location, 1 to 10 characters.
     pub fn location(&self) -> &'r [u8] {
-        self.mandatory(Field::Location)
+        self.mandatory(StampField::Location)
     }
 
+    /// The inspector, 1 to 20 characters.
     pub fn inspector(&self) -> &'r [u8] {
-        self.mandatory(Field::Inspector)
+        self.mandatory(StampField::Inspector)
     }
 
-    /// The result of the inspection.
+    /// The result of the inspection, 1 to 50 characters.
     pub fn result(&self) -> Option<&'r [u8]> {
-        self.value(Field::Result)
+        self.value(StampField::Result)
     }
 
-    /// The mode of travel, a letter.
+    /// The mode of travel, any letter.
     pub fn mode(&self) -> Option<u8> {
-        self.value(Field::Mode).map(|letter| letter[0])
+        self.value(StampField::Mode).map(|letter| letter[0])
     }
 
-    /// The duration of stay, 1 or 2 bytes.
+    /// The duration of stay, 1 or 2 bytes: days, the high byte first. Table 11's example 00FF is
+    /// 255. The library does not look into it.
     pub fn duration(&self) -> Option<&'r [u8]> {
-        self.value(Field::Duration)
+        self.value(StampField::Duration)
     }
 
-    /// Conditions that the holder has to observe.
+    /// Conditions that the holder has to observe, 1 to 50 characters.
     pub fn conditions(&self) -> Option<&'r [u8]> {
-        self.value(Field::Conditions)
+        self.value(StampField::Conditions)
     }
 
+    /// The signature over the signed part, 1 to 140 bytes. The library does not check it.
     pub fn signature(&self) -> &'r [u8] {
-        self.mandatory(Field::Signature)
+        self.mandatory(StampField::Signature)
     }
 
     /// The number of the travel certificate that the stamp names, for
     /// [`certificate`](crate::certificate).
     pub fn reference(&self) -> u8 {
-        self.mandatory(Field::Reference)[0]
+        self.mandatory(StampField::Reference)[0]
     }
 
-    fn mandatory(&self, field: Field) -> &'r [u8] {
+    fn mandatory(&self, field: StampField) -> &'r [u8] {
         self.value(field).expect("a stamp has this field")
     }
 }
@@ -304,7 +334,7 @@ mod tests {
         [field(0), object(&[0x73], &inside), field(11), field(12)].concat()
     }
 
-    fn fault(record: &[u8]) -> (Reason, usize) {
+    fn fault(record: &[u8]) -> (StampReason, usize) {
         let fault = read_stamp(record).unwrap_err();
         (fault.reason, fault.at)
     }
@@ -315,7 +345,7 @@ mod tests {
         let stamp = read_stamp(&record).unwrap();
         let read: Vec<&[u8]> = stamp.fields().map(|(_, value)| value).collect();
         assert_eq!(read, VALUES);
-        assert!(stamp.fields().map(|(field, _)| field).eq(Field::ALL));
+        assert!(stamp.fields().map(|(field, _)| field).eq(StampField::ALL));
         assert_eq!(stamp.record(), record);
         assert_eq!(stamp.state(), VALUES[1]);
         assert_eq!(stamp.visas(), Some(VALUES[2]));
@@ -335,7 +365,9 @@ mod tests {
     fn the_shortest_and_the_longest() {
         let stamp = read_stamp(SHORTEST).unwrap();
         let present = stamp.fields().map(|(field, _)| field);
-        assert!(present.eq(Field::ALL.into_iter().filter(|field| !field.is_optional())));
+        assert!(present.eq(StampField::ALL
+            .into_iter()
+            .filter(|field| !field.is_optional())));
         assert_eq!((stamp.mode(), stamp.duration()), (None, None));
         let long = [3, 3, 50, 8, 10, 10, 20, 50, 1, 2, 50, 140, 1];
         let values = long.map(|length| vec![b'7'; length]);
@@ -352,17 +384,20 @@ mod tests {
     #[test]
     fn optional_fields() {
         for bits in 0..1 << 13 {
-            let absent = |field: &Field| bits >> *field as usize & 1 != 0;
-            if Field::ALL.iter().any(|f| absent(f) && !f.is_optional()) {
+            let absent = |field: &StampField| bits >> *field as usize & 1 != 0;
+            if StampField::ALL
+                .iter()
+                .any(|f| absent(f) && !f.is_optional())
+            {
                 continue;
             }
             let mut values = VALUES;
-            for field in Field::ALL.iter().filter(|field| absent(field)) {
+            for field in StampField::ALL.iter().filter(|field| absent(field)) {
                 values[*field as usize] = b"";
             }
             let record = stamp_of(values);
             let stamp = read_stamp(&record).unwrap();
-            for field in Field::ALL {
+            for field in StampField::ALL {
                 let value = stamp.value(field).unwrap_or_default();
                 assert_eq!(value, values[field as usize], "{field}");
             }
@@ -378,35 +413,35 @@ mod tests {
             assert!(record.as_ptr_range().contains(&value.as_ptr()));
         }
         let end = record.len();
-        let last = stamp.value(Field::Reference).unwrap();
+        let last = stamp.value(StampField::Reference).unwrap();
         assert_eq!(last.as_ptr_range(), record[end - 1..].as_ptr_range());
     }
 
     #[test]
     fn wrong_tags() {
-        assert_eq!(fault(&[]), (Reason::Tag, 0));
-        assert_eq!(fault(&SHORTEST[6..]), (Reason::Tag, 0));
+        assert_eq!(fault(&[]), (StampReason::Tag, 0));
+        assert_eq!(fault(&SHORTEST[6..]), (StampReason::Tag, 0));
         // No reference, half its tag; a byte behind it.
-        assert_eq!(fault(&SHORTEST[..41]), (Reason::Tag, 41));
-        assert_eq!(fault(&SHORTEST[..42]), (Reason::Tag, 41));
-        assert_eq!(fault(&[SHORTEST, &[0]].concat()), (Reason::Tag, 45));
+        assert_eq!(fault(&SHORTEST[..41]), (StampReason::Tag, 41));
+        assert_eq!(fault(&SHORTEST[..42]), (StampReason::Tag, 41));
+        assert_eq!(fault(&[SHORTEST, &[0]].concat()), (StampReason::Tag, 45));
         // No inspector: the signature stands where the signed part ends.
         let mut values = VALUES;
         values[6..11].fill(b"");
         let record = stamp_of(values);
         let signature = record.len() - 4 - 6;
-        assert_eq!(fault(&record), (Reason::Tag, signature));
+        assert_eq!(fault(&record), (StampReason::Tag, signature));
         // The signed part goes on into the signature.
         let mut record = SHORTEST.to_vec();
         record[7] += 4;
-        assert_eq!(fault(&record), (Reason::Tag, 37));
+        assert_eq!(fault(&record), (StampReason::Tag, 37));
     }
 
     #[test]
     fn wrong_lengths() {
-        assert_eq!(fault(&SHORTEST[..44]), (Reason::Length, 41));
-        assert_eq!(fault(&SHORTEST[..43]), (Reason::Length, 41));
-        assert_eq!(fault(&SHORTEST[..30]), (Reason::Length, 6));
+        assert_eq!(fault(&SHORTEST[..44]), (StampReason::Length, 41));
+        assert_eq!(fault(&SHORTEST[..43]), (StampReason::Length, 41));
+        assert_eq!(fault(&SHORTEST[..30]), (StampReason::Length, 6));
         for (at, size) in [3, 3, 50, 8, 10, 10, 20, 50, 1, 2, 50, 140, 1]
             .into_iter()
             .enumerate()
@@ -415,11 +450,11 @@ mod tests {
             let mut values = VALUES;
             values[at] = &long;
             let fault = read_stamp(&stamp_of(values)).unwrap_err();
-            assert_eq!(fault.reason, Reason::Length);
+            assert_eq!(fault.reason, StampReason::Length);
         }
         // A length of the signed part that is not the shortest form.
         let record = [&SHORTEST[..7], &[0x81], &SHORTEST[7..]].concat();
-        assert_eq!(fault(&record), (Reason::Length, 6));
+        assert_eq!(fault(&record), (StampReason::Length, 6));
     }
 
     #[test]
@@ -429,24 +464,36 @@ mod tests {
             record[at] = byte;
             fault(&record)
         };
-        assert_eq!(with(44, 0x00), (Reason::Content, 41));
-        assert_eq!(with(44, 0xFF), (Reason::Content, 41));
-        assert_eq!(with(3, b'1'), (Reason::Content, 0));
+        assert_eq!(with(44, 0x00), (StampReason::Content, 41));
+        assert_eq!(with(44, 0xFF), (StampReason::Content, 41));
+        assert_eq!(with(3, b'1'), (StampReason::Content, 0));
         // The two States differ.
-        assert_eq!(with(3, b'u'), (Reason::Content, 8));
-        assert_eq!(with(13, b'A'), (Reason::Content, 8));
-        assert_eq!(with(17, b'A'), (Reason::Content, 14));
-        assert_eq!(with(28, b'-'), (Reason::Content, 25));
+        assert_eq!(with(3, b'u'), (StampReason::Content, 8));
+        assert_eq!(with(13, b'A'), (StampReason::Content, 8));
+        assert_eq!(with(17, b'A'), (StampReason::Content, 14));
+        assert_eq!(with(28, b'-'), (StampReason::Content, 25));
     }
 
     #[test]
     fn reasons_and_words() {
-        let reasons = [Reason::Tag, Reason::Length, Reason::Content];
-        assert_eq!(reasons.map(Reason::number), [1, 2, 3]);
+        let reasons = [StampReason::Tag, StampReason::Length, StampReason::Content];
+        assert_eq!(reasons.map(StampReason::number), [1, 2, 3]);
+        assert_eq!([1, 2, 3].map(StampReason::of_number), reasons);
         let fault = read_stamp(&SHORTEST[..41]).unwrap_err();
         let words = "no stamp, at offset 41: an object is missing, out of order or too many";
         assert_eq!(fault.to_string(), words);
-        assert_eq!(Field::Reference.to_string(), "certificate reference");
+        assert_eq!(StampField::Reference.to_string(), "certificate reference");
+    }
+
+    /// A library of another version may answer other reasons.
+    #[test]
+    fn a_reason_that_is_not_known() {
+        assert_eq!(fault_of(0), None);
+        let fault = fault_of(99 << 32 | 7).unwrap();
+        assert_eq!((fault.reason, fault.at), (StampReason::Unknown(99), 7));
+        assert_eq!(fault.reason.number(), 99);
+        let words = "no stamp, at offset 7: reason 99, which is not known here";
+        assert_eq!(fault.to_string(), words);
     }
 
     /// What the header says of a stamp by this name.
@@ -462,15 +509,15 @@ mod tests {
     fn the_numbers_are_those_of_the_header() {
         assert_eq!(in_header("LEN"), crate::STAMP_LEN);
         assert_eq!(in_header("PLACES"), PLACES);
-        for (number, field) in Field::ALL.into_iter().enumerate() {
+        for (number, field) in StampField::ALL.into_iter().enumerate() {
             let name = match field {
-                Field::StateCopy => "STATE_COPY".to_string(),
+                StampField::StateCopy => "STATE_COPY".to_string(),
                 _ => format!("{field:?}").to_uppercase(),
             };
             assert_eq!((in_header(&name), field as usize), (number, number));
         }
-        for reason in [Reason::Tag, Reason::Length, Reason::Content] {
-            let name = format!("{reason:?}").to_uppercase();
+        for reason in [StampReason::Tag, StampReason::Length, StampReason::Content] {
+            let name = format!("WRONG_{reason:?}").to_uppercase();
             assert_eq!(in_header(&name), reason.number() as usize);
         }
     }

@@ -640,7 +640,26 @@ fn optional_fields_that_end_too_early() {
     for length in ["81", "82", "8201", "8180", "820100"] {
         faulty(&with(&[hex("5F4E"), hex(length)].concat()), 37, Length);
     }
-    // The other half of the tag, or the length, stands behind 73 and is not looked at.
+    // A whole object of a tag that has no place there is a wrong tag, as is a tag alone.
+    for other in [
+        "5F4F 01 41",
+        "5F4F",
+        "5F00",
+        "4D 01 41",
+        "4D",
+        "73 00",
+        "00",
+        "FF",
+    ] {
+        faulty(&with(&hex(other)), 37, Tag);
+    }
+}
+
+/// The other half of the tag, or the length, stands behind 73 and is not looked at.
+#[test]
+fn optional_fields_that_go_on_behind_73() {
+    let record = shortest();
+    let (before, inside) = (&record[..6], &record[8..37]);
     let half = [inside, &[0x5F]].concat();
     faulty(
         &frame(before, &half, &hex("4D 01 41 5F37 01 00 5F38 01 01")),
@@ -659,19 +678,6 @@ fn optional_fields_that_end_too_early() {
         37,
         Length,
     );
-    // A whole object of a tag that has no place there is a wrong tag, as is a tag alone.
-    for other in [
-        "5F4F 01 41",
-        "5F4F",
-        "5F00",
-        "4D 01 41",
-        "4D",
-        "73 00",
-        "00",
-        "FF",
-    ] {
-        faulty(&with(&hex(other)), 37, Tag);
-    }
 }
 
 #[test]
@@ -911,6 +917,11 @@ fn sizes_that_the_table_does_not_allow() {
             faulty(&full_but(i, &object), at + shift, Length);
         }
     }
+}
+
+/// The same in the shortest stamp.
+#[test]
+fn sizes_that_the_table_does_not_allow_in_the_shortest() {
     let starts = [
         (COPY, 0),
         (STATE, 8),
@@ -977,6 +988,11 @@ fn forms_of_lengths() {
             );
         }
     }
+}
+
+/// The same of the length of 73.
+#[test]
+fn forms_of_the_length_of_73() {
     let record = shortest();
     let with = |form: &[u8]| [&record[..7], form, &record[8..]].concat();
     for form in [
@@ -1484,11 +1500,30 @@ fn plain_length(record: &[u8], at: usize, end: usize) -> Option<(usize, usize)> 
     (shortest && behind + length <= end).then_some((behind, length))
 }
 
+/// The object of a field at an offset that has its tag: where its value begins, and its length.
+fn plain_value(
+    record: &[u8],
+    i: usize,
+    at: usize,
+    end: usize,
+) -> Result<(usize, usize), (usize, u64)> {
+    let (_, _, fewest, most, set) = ROWS[i];
+    let (behind, length) = plain_length(record, at + 2, end).ok_or((at, 2_u64))?;
+    if length < fewest || length > most {
+        return Err((at, 2));
+    }
+    let value = &record[behind..behind + length];
+    if value.iter().any(|byte| !in_set(set, *byte)) || i == STATE && *value != record[3..6] {
+        return Err((at, 3));
+    }
+    Ok((behind, length))
+}
+
 /// One walk over the record that ends at the first thing wrong.
 fn plain_read(record: &[u8]) -> Result<Vec<(usize, usize)>, (usize, u64)> {
     let mut places = Vec::new();
     let (mut at, mut end) = (0, record.len());
-    for (i, (tag, presence, fewest, most, set)) in ROWS.into_iter().enumerate() {
+    for (i, (tag, presence, ..)) in ROWS.into_iter().enumerate() {
         if i == STATE {
             if record.get(at) != Some(&0x73) {
                 return Err((at, 1));
@@ -1510,14 +1545,7 @@ fn plain_read(record: &[u8]) -> Result<Vec<(usize, usize)>, (usize, u64)> {
             places.push((0, 0));
             continue;
         }
-        let (behind, length) = plain_length(record, at + 2, end).ok_or((at, 2_u64))?;
-        if length < fewest || length > most {
-            return Err((at, 2));
-        }
-        let value = &record[behind..behind + length];
-        if value.iter().any(|byte| !in_set(set, *byte)) || i == STATE && *value != record[3..6] {
-            return Err((at, 3));
-        }
+        let (behind, length) = plain_value(record, i, at, end)?;
         places.push((behind, length));
         at = behind + length;
     }
@@ -1526,6 +1554,25 @@ fn plain_read(record: &[u8]) -> Result<Vec<(usize, usize)>, (usize, u64)> {
     } else {
         Err((at, 1))
     }
+}
+
+/// The record is the bytes of the fields at these places, which meet the table's conditions.
+#[track_caller]
+fn meets_the_table(record: &[u8], places: &[(usize, usize)]) {
+    let values: [&[u8]; 13] =
+        std::array::from_fn(|i| &record[places[i].0..places[i].0 + places[i].1]);
+    for (value, (_, presence, fewest, most, set)) in values.iter().zip(ROWS) {
+        let absent = presence == 'O' && value.is_empty();
+        assert!(absent || (fewest..=most).contains(&value.len()));
+        assert!(value.iter().all(|byte| in_set(set, *byte)));
+    }
+    assert_eq!(values[COPY], values[STATE]);
+    let objects = std::array::from_fn(|i| match values[i] {
+        [] => vec![],
+        value => field(i, value),
+    });
+    assert_eq!(join(&objects), record);
+    assert!((45..=391).contains(&record.len()));
 }
 
 /// Both readings agree. A record that is accepted is the bytes of its fields, which meet the
@@ -1547,20 +1594,7 @@ fn agrees(record: &[u8]) -> usize {
                 .flat_map(|p| [p.0 as u32, p.1 as u32])
                 .collect();
             assert_eq!(list[..26], listed);
-            let values: [&[u8]; 13] =
-                std::array::from_fn(|i| &record[found[i].0..found[i].0 + found[i].1]);
-            for (value, (_, presence, fewest, most, set)) in values.iter().zip(ROWS) {
-                let absent = presence == 'O' && value.is_empty();
-                assert!(absent || (fewest..=most).contains(&value.len()));
-                assert!(value.iter().all(|byte| in_set(set, *byte)));
-            }
-            assert_eq!(values[COPY], values[STATE]);
-            let objects = std::array::from_fn(|i| match values[i] {
-                [] => vec![],
-                value => field(i, value),
-            });
-            assert_eq!(join(&objects), record);
-            assert!((45..=391).contains(&record.len()));
+            meets_the_table(record, &found);
             0
         }
         Err((at, reason)) => {

@@ -35,8 +35,8 @@ enum-told-4 c = search needs
 enum-told-5 : tie.Need-enum-told-5
 enum-told-5 c = search needs
 
-within-requires : tie.Need-within-requires
-within-requires c κs = search needs
+between-requires : tie.Need-between-requires
+between-requires c κs = search needs
 
 returns : tie.Need-returns
 returns c = simp (c .before .enum-told .given .1) (c .letter .ensures)
@@ -51,7 +51,7 @@ returns-4 : tie.Need-returns-4
 returns-4 c = search needs
 
 returns-5 : tie.Need-returns-5
-returns-5 c = simp (c .before .enum-told5 .given .1) (c .within .ensures)
+returns-5 c = simp (c .before .enum-told5 .given .1) (c .between .ensures)
 
 pub allows-spec : {M : Type 1} → statement M
 allows-spec =
@@ -67,7 +67,7 @@ allows-spec =
     special-requires
     enum-told-4
     enum-told-5
-    within-requires
+    between-requires
     returns
     returns-2
     returns-3

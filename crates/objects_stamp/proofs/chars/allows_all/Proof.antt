@@ -4,7 +4,7 @@ use Prim.Native.Nat.{_-_}
 use native.Mathlib.Omega.{arith}
 use lib.ListN.{length, drop}
 use Rattle.objects_stamp.specs.Chars.{allowsAll}
-use Rattle.objects_stamp.proofs.Contents.{may-on, may-no, may-end}
+use Rattle.objects_stamp.proofs.Contents.{allows-on, allows-no, allows-end}
 use Rattle.objects_stamp.proofs.chars.allows_all.Statement.{statement}
 use Rattle.objects_stamp.proofs.chars.allows_all.Tie as tie
 
@@ -24,7 +24,7 @@ allows-requires : tie.Need-allows-requires Inv-loop μ-loop
 allows-requires c κs = tt
 
 returns : tie.Need-returns Inv-loop μ-loop
-returns c = may-no _ _ _ (c .before .before .before .before .loop .inv) (omega arith) (c .before .allows .ensures) (c .if1 .taken)
+returns c = allows-no _ _ _ (c .before .before .before .before .loop .inv) (omega arith) (c .before .allows .ensures) (c .if1 .taken)
 
 add-i : tie.Need-add-i Inv-loop μ-loop
 add-i c = omega arith
@@ -33,10 +33,10 @@ loop-less : tie.Need-loop-less Inv-loop μ-loop
 loop-less c = omega arith
 
 loop-again : tie.Need-loop-again Inv-loop μ-loop
-loop-again c = may-on _ _ _ (c .before .before .before .before .loop .inv) (omega arith) (c .before .allows .ensures) (c .if1 .left)
+loop-again c = allows-on _ _ _ (c .before .before .before .before .loop .inv) (omega arith) (c .before .allows .ensures) (c .if1 .left)
 
 returns-2 : tie.Need-returns-2 Inv-loop μ-loop
-returns-2 c = may-end (c .before .before .before .args .c) (c .before .before .before .args .v .now) (c .before .loop .i) (c .before .loop .inv) (omega arith)
+returns-2 c = allows-end (c .before .before .before .args .c) (c .before .before .before .args .v .now) (c .before .loop .i) (c .before .loop .inv) (omega arith)
 
 pub allows-all-spec : {M : Type 1} → statement M
 allows-all-spec =

@@ -4,12 +4,12 @@ use borrow.Author.Needs.{needs}
 use Rattle.objects_stamp.proofs.chars.digit.Statement.{statement}
 use Rattle.objects_stamp.proofs.chars.digit.Tie as tie
 
-within-requires : tie.Need-within-requires
-within-requires c κs = search needs
+between-requires : tie.Need-between-requires
+between-requires c κs = search needs
 
 returns : tie.Need-returns
 unfolding isDigit
-returns c = c .within .ensures
+returns c = c .between .ensures
 
 pub digit-spec : {M : Type 1} → statement M
-digit-spec = tie.close (tie.spec within-requires returns)
+digit-spec = tie.close (tie.spec between-requires returns)

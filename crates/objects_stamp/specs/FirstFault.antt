@@ -47,5 +47,5 @@ firstFault ok (nested tag g f) k at s =
     (Wrong WrongTag at)
 
 -- with a record, by Table 11 [TR8]
-unfoldable pub stampFault : List ℕ → Finding
-stampFault s = firstFault (contentOk s) stampForm 0 0 s
+unfoldable pub stampFinding : List ℕ → Finding
+stampFinding s = firstFault (contentOk s) stampForm 0 0 s
