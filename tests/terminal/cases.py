@@ -139,10 +139,11 @@ def in_words(rights):
 
 
 class Cases:
-    """The lines of the input and what is answered: standard output and standard error."""
+    """The lines of the input and what is answered: standard output and standard error; and the records of ExitRecords after all."""
 
     def __init__(self):
         self.stdin, self.stdout, self.stderr = [], [], []
+        self.exits = [b"\x77"]
 
     def command(self, line, answer):
         self.stdin.append(line)
@@ -358,11 +359,11 @@ def stamps(c):
     wrong("stamp 01", "01 of EntryRecords", entries[0], 6, "tag")                 # `73` is missing, at the end
     wrong(" stamp\t3 # a comment", "03 of EntryRecords", entries[2], 0, "tag")
     wrong("stamp 1  exit", "01 of ExitRecords", b"\x77", 0, "tag")
-    numbers = iter(range(2, 256))
 
     def appended(record):
         c.command(f"00E20010{len(record):02X}{record.hex()}", "9000")
-        return f"{next(numbers):02X}"
+        c.exits.append(record)
+        return f"{len(c.exits):02X}"
 
     for values in (SHORT, EVERY, LONG):
         number = appended(stamp_of(values))

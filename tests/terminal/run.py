@@ -114,7 +114,7 @@ def test_gate_cases(folder):
     assert stderr == "\n".join(c.stderr) + "\n", stderr
     assert status == 1
     kept = bodies(read(folder, "try.card"))
-    assert [r.hex().upper() for r in records(kept[0x0101])] == cases.RECORDS and records(kept[0x0102]) == [b"\x77"]
+    assert [r.hex().upper() for r in records(kept[0x0101])] == cases.RECORDS and records(kept[0x0102]) == c.exits
     assert records(kept[0x011A]) == [b"\xC0\xC1\xC2"]
     for name in cases.FILES.keys() - {"try.card"}:
         assert read(folder, name) == cases.FILES[name]          # a copy is only read
@@ -150,6 +150,22 @@ def test_certificates(folder):
     os.mkdir(os.path.join(folder, "folder"))
     assert run(folder, b"certificate 01 folder", "desk.card") == (1, "", "! the card's file cannot be used: folder: Is a directory\n")
     assert all(read(folder, name) == content for name, content in cases.FILES.items())
+
+
+def test_stamps(folder):
+    """A record that is no stamp, or is not there, is an answer; the card is only read, and no right is asked for."""
+    record = cases.stamp_of(cases.SHORT)
+    card = section(0x0101, record_body([record, b"\x77"], 60)) + section(0x0102, bytes(2)) + section(0x011A, bytes(2))
+    write(folder, "stamps.card", card)
+    says = "= record 01 of EntryRecords is a stamp\n" + "".join(line + "\n" for line in cases.fields_of(cases.SHORT))
+    assert run(folder, b"open none\nstamp 01", "stamps.card") == (0, cases.OPENED + "\n" + says, "")
+    fault = "= record 02 of EntryRecords is no stamp: first fault at offset 0\n  77\n  ^ " + cases.REASONS["tag"] + "\n"
+    assert run(folder, b"stamp 02", "stamps.card") == (0, fault, "")
+    assert run(folder, b"stamp 03", "stamps.card") == (0, "= record 03 of EntryRecords is missing\n", "")
+    write(folder, "visa.only", cases.FILES["visa.only"])
+    assert run(folder, b"stamp 01 exit", "visa.only") == (0, "= record 01 of ExitRecords is missing\n", "")
+    assert run(folder, b"stamp 01 entry", "stamps.card")[0] == 1
+    assert read(folder, "stamps.card") == card
 
 
 def test_no_card(folder):
@@ -350,7 +366,7 @@ def main():
     parser.add_argument("--seed", type=int, default=random.randrange(1 << 32))
     options = parser.parse_args()
     print(f"seed {options.seed}")
-    tests = [test_gate_cases, test_status, test_certificates, test_no_card, test_long, test_typed, test_kept, test_cut, test_script]
+    tests = [test_gate_cases, test_status, test_certificates, test_stamps, test_no_card, test_long, test_typed, test_kept, test_cut, test_script]
     for test in tests:
         with tempfile.TemporaryDirectory() as folder:
             test(folder)
