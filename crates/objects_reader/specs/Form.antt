@@ -2,7 +2,8 @@
 --
 -- What the reader accepts is said in a readable way elsewhere: `searchData` and `SearchSized` (objects_templates/specs/Search.antt) for a
 -- search, `updateData` and `UpdateSized`, `referenceData` and `References` for the others, `stampData` and `Lawful` for a stamp. The laws
--- `search-sound`, `search-complete` and their likes prove that it accepts exactly that. This file says what a reading answers for every input, where it finds a fault too.
+-- `search-sound`, `search-complete` and their likes prove that it accepts exactly that. This file says what a reading answers for every
+-- input, where it finds a fault too.
 use Prim.Native.Nat.{ℕ, zero, suc, _+_, _-_, min}
 use mathlib.Core.List.{List, []}
 use mathlib.Core.Bool.{Bool}
@@ -50,7 +51,7 @@ formOf rows = formIn (length rows) rows
 
 -- ---- a reading
 
--- the number of a fault: another tag or none, a length that does not fit, too deep; 3 is what a stamp has for a content (TR9) [D9] [C2]
+-- the number of a fault: another tag or none, a length that does not fit, too deep; 3 is a wrong content, which a stamp can have [D9] [C2]
 abbrev pub faultNumber : Fault → ℕ
 faultNumber Clean = 0
 faultNumber Tag = 1
@@ -69,8 +70,8 @@ fresh = record { fault = Clean; at = 0; n = 0; starts = replicate 13 0; lens = r
 abbrev pub spoilt : Reading → Fault → ℕ → Reading
 spoilt r f at = record { fault = f; at = at; n = r .n; starts = r .starts; lens = r .lens }
 
--- `noted r start len` is r with the place (start, len) behind its others. Thirteen are kept, as many as a stamp has fields;
--- more are dropped. [D9]
+-- `noted r start len` is r with the place (start, len) behind its others. Thirteen are kept, as many as a stamp has fields; a further one is
+-- dropped. [D9]
 abbrev pub noted : Reading → ℕ → ℕ → Reading
 noted r start len =
     ifElse (ltb (r .n) 13)

@@ -44,8 +44,8 @@ NestFaults NoTag at within behind r p = OnlyAt WrongTag at r p
 NestFaults NoLength at within behind r p = OnlyAt WrongLength at r p
 NestFaults (Body start len) at within behind r p = within start len r p ⊎ behind (start + len) r p
 
--- what is wrong with s, which starts at `at` in the record and whose first field is the k-th of the table; behind the last object nothing
--- may stand [TR7]
+-- What is wrong with s, which starts at `at` in the record and whose first field is the k-th of the table. Behind the last object nothing may
+-- stand. `ok k start len` says whether the k-th field may have the len bytes from start on for its content. [TR7]
 unfoldable pub FormFaults : (ok : ℕ → ℕ → ℕ → Bool) → Form → (k at : ℕ) → List ℕ → Faults
 FormFaults ok done k at s r p = (1 ≤ length s) × OnlyAt WrongTag at r p
 FormFaults ok (plain tag lo hi f) k at s r p =
