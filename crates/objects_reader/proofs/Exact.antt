@@ -1,6 +1,6 @@
 -- A reading by a form ends clean exactly on the form's writings, and then notes the place of each value. Read before: specs/Encoding.antt,
--- specs/Places.antt. Exports `all-complete`, `all-places`, `all-sound`, `read-complete`,
--- `read-sound`, and `bytes-drop`, `bytes-take`.
+-- specs/Places.antt, Fitting.antt. Exports `all-complete`, `all-places`, `all-sound`, `read-complete`, `read-sound`, and `bytes-drop`,
+-- `bytes-take`.
 use Prim.Native.Nat.{ℕ, zero, suc, _+_, _-_, _≤_, _<_}
 use mathlib.Core.Path.{_≡_, refl, sym, ap, ap₂, _∙_}
 use mathlib.Core.List.{List, [], _∷_, _++_, append-assoc, append-nil}
@@ -17,14 +17,15 @@ use Rattle.base.proofs.Cases.{by-cases, false-true}
 use Rattle.objects_writer.specs.Writing.{lengthBytes, tagBytes, tlv}
 use Rattle.objects_reader.specs.Head.{headOf}
 use Rattle.objects_reader.specs.Form.{Form, done, plain, maybe, nested, isClean, fresh, spoilt, noted, onHead, ofSize, onValue, readForm, readAll, readBy}
-use Rattle.objects_reader.specs.Encoding.{Perhaps, absent, present, perhaps, Values, encode, SizedP, Sized, leaves, placeOf, placesAt, leafCount, deep, Follows, Proper}
+use Rattle.objects_reader.specs.Encoding.{Perhaps, absent, present, perhaps, Values, encode, valueOf, SizedP, Sized, leaves, placeOf, placesAt, leafCount, deep, Follows, Proper}
 use Rattle.objects_reader.specs.Places.{placePairs, Placed, Noted, Parsed}
 use Rattle.objects_reader.specs.declared.head.Head.{Head}
 use Rattle.objects_reader.specs.declared.head.Head.the-variants.{Body, NoTag, NoLength}
 use Rattle.objects_reader.specs.declared.reader.Fault.the-variants.{Tag, Length}
 use Rattle.objects_reader.specs.declared.reader.Reading.{Reading}
 use Rattle.objects_reader.proofs.Heads.{headSize, Begins, headOf-sound}
-use Rattle.objects_reader.proofs.Unique.{length-tlv, object-size, object-head, object-value, object-rest, follows-head}
+use Rattle.objects_reader.proofs.Fitting.{Fitting, short-fitting}
+use Rattle.objects_reader.proofs.Unique.{length-tlv, object-head, object-value, object-rest, follows-head}
 
 -- ---- every writing is read, and the places of its values are noted
 
@@ -125,7 +126,7 @@ abbrev Complete : (f : Form) → Values f → ℕ → Type 0
 Complete f v d = (base : ℕ) (r : Reading) (s : List ℕ) (us : List (List ℕ)) (ps : List ℕ) → Stands s base (encode f v) → length us + length (leaves f v) ≤ 13 → NotedAt s r us ps
     → NotedAt s (readForm f d base (encode f v) r) (us ++ leaves f v) (ps ++ placesAt f v base)
 
-complete-value : (t lo hi : ℕ) (f : Form) (d : ℕ) (a : List ℕ) (v : Values f) → t < 65536 → 1 ≤ d → lo ≤ length a → length a ≤ hi → length (tlv t a ++ encode f v) < 65536
+complete-value : (t lo hi : ℕ) (f : Form) (d : ℕ) (a : List ℕ) (v : Values f) → t < 65536 → 1 ≤ d → lo ≤ length a → length a ≤ hi → length a < 65536
     → Complete f v d → (base : ℕ) (r none : Reading) (s : List ℕ) (us : List (List ℕ)) (ps : List ℕ) → Stands s base (tlv t a ++ encode f v) → length us + suc (length (leaves f v)) ≤ 13 → NotedAt s r us ps
     → NotedAt s (onValue t lo hi d base (tlv t a ++ encode f v) r (readForm f d) none) (us ++ (a ∷ leaves f v)) (ps ++ (placeOf base t (present a) ++ placesAt f v (base + length (tlv t a))))
 complete-value t lo hi f d a v p q x y z ih base r none s us ps w h m =
@@ -134,7 +135,7 @@ complete-value t lo hi f d a v p q x y z ih base r none s us ps w h m =
     let k = ih _ (noted r (base + headSize t (length a)) (length a)) s (us ++ (a ∷ [])) (ps ++ placeOf base t (present a)) (stands-rest t a e w) (omega arith) (note-next (omega arith) m (placed (stands-value t a e w))) in
     simp (ne-eqb d 0 (omega arith), object-head t a e p z, le-ltb (length a) lo x, le-ltb hi (length a) y, object-rest t a e, length-tlv t a) (simp append-assoc at k)
 
-complete-maybe : (t lo hi : ℕ) (f : Form) (d : ℕ) (o : Perhaps) (v : Values f) → t < 65536 → Follows t f → 1 ≤ d → SizedP lo hi o → length (perhaps t o ++ encode f v) < 65536
+complete-maybe : (t lo hi : ℕ) (f : Form) (d : ℕ) (o : Perhaps) (v : Values f) → t < 65536 → Follows t f → 1 ≤ d → SizedP lo hi o → length (valueOf o) < 65536
     → Complete f v d → Complete (maybe t lo hi f) (o, v) d
 unfolding readForm encode perhaps leaves placesAt
 complete-maybe t lo hi f d absent v p g q y z ih base r s us ps w h m =
@@ -145,24 +146,21 @@ complete-maybe t lo hi f d absent v p g q y z ih base r s us ps w h m =
 complete-maybe t lo hi f d (present a) v p g q y z ih base r s us ps w h m =
     complete-value t lo hi f d a v p q (y .0) (y .1) z ih base r _ s us ps w h m
 
-complete : (f : Form) (v : Values f) (d : ℕ) → Proper f → deep f ≤ d → Sized f v → length (encode f v) < 65536 → Complete f v d
-unfolding readForm encode leaves placesAt Proper deep Sized
+complete : (f : Form) (v : Values f) (d : ℕ) → Proper f → deep f ≤ d → Sized f v → Fitting f v → Complete f v d
+unfolding readForm encode leaves placesAt Proper deep Sized Fitting
 complete done v d p q x z base r s us ps w h m = simp append-nil m
 complete (plain t lo hi f) v d p q x z base r s us ps w h m =
-    let n = object-size t (v .0) (encode f (v .1)) in
-    complete-value t lo hi f d (v .0) (v .1) (p .0) (omega arith) (x .0) (x .1) z (complete f (v .1) d (p .1) (omega arith) (x .2) (omega arith)) base r _ s us ps w h m
+    complete-value t lo hi f d (v .0) (v .1) (p .0) (omega arith) (x .0) (x .1) (z .0) (complete f (v .1) d (p .1) (omega arith) (x .2) (z .1)) base r _ s us ps w h m
 complete (maybe t lo hi f) v d p q x z base r s us ps w h m =
-    let n = length-append (perhaps t (v .0)) (encode f (v .1)) in
-    complete-maybe t lo hi f d (v .0) (v .1) (p .0) (p .1) (omega arith) (x .0) z (complete f (v .1) d (p .2) (omega arith) (x .1) (omega arith)) base r s us ps w h m
+    complete-maybe t lo hi f d (v .0) (v .1) (p .0) (p .1) (omega arith) (x .0) (z .0) (complete f (v .1) d (p .2) (omega arith) (x .1) (z .1)) base r s us ps w h m
 complete (nested t g f) v d p q x z base r s us ps w h m =
     let a = encode g (v .0) in
     let e = encode f (v .1) in
-    let n = object-size t a e in
     let l = length-append (leaves g (v .0)) (leaves f (v .1)) in
     let l′ = length-append us (leaves g (v .0)) in
-    let i = complete g (v .0) (d - 1) (p .1) (omega arith) (x .0) (omega arith) (base + headSize t (length a)) r s us ps (stands-value t a e w) (omega arith) m in
-    let j = complete f (v .1) d (p .2) (omega arith) (x .1) (omega arith) (base + (headSize t (length a) + length a)) _ s (us ++ leaves g (v .0)) (ps ++ placesAt g (v .0) (base + headSize t (length a))) (stands-rest t a e w) (omega arith) i in
-    simp (ne-eqb d 0 (omega arith), object-head t a e (p .0) z, object-value t a e, object-rest t a e, i .is .clean, length-tlv t a) (simp append-assoc at j)
+    let i = complete g (v .0) (d - 1) (p .1) (omega arith) (x .0) (z .1) (base + headSize t (length a)) r s us ps (stands-value t a e w) (omega arith) m in
+    let j = complete f (v .1) d (p .2) (omega arith) (x .1) (z .2) (base + (headSize t (length a) + length a)) _ s (us ++ leaves g (v .0)) (ps ++ placesAt g (v .0) (base + headSize t (length a))) (stands-rest t a e w) (omega arith) i in
+    simp (ne-eqb d 0 (omega arith), object-head t a e (p .0) (z .0), object-value t a e, object-rest t a e, i .is .clean, length-tlv t a) (simp append-assoc at j)
 
 -- ---- what is read clean is a writing
 
@@ -194,6 +192,7 @@ pub record Found (f : Form) (d : ℕ) (s : List ℕ) : Type 0 where
   pub values : Values f
   pub bytes : s ≡ encode f values
   pub sized : Sized f values
+  pub fitting : Fitting f values
   pub within : deep f ≤ d
 
 none-left : (s : List ℕ) → length s ≡ 0 → s ≡ []
@@ -208,9 +207,11 @@ record Value (t lo hi : ℕ) (f : Form) (d : ℕ) (s : List ℕ) : Type 0 where
   value : List ℕ
   least : lo ≤ length value
   most : length value ≤ hi
+  short : length value < 65536
   values : Values f
   bytes : s ≡ tlv t value ++ encode f values
   sized : Sized f values
+  fitting : Fitting f values
   within : deep f ≤ d
 
 module _ (t lo hi : ℕ) (f : Form) (d : ℕ) (ih : Sound f d) (base : ℕ) (s : List ℕ) (r none : Reading) (b : AllBytes s) where
@@ -224,6 +225,7 @@ module _ (t lo hi : ℕ) (f : Form) (d : ℕ) (ih : Sound f d) (base : ℕ) (s :
       by-cases (ltb hi n) (λ y. false-true (simp (x, y) at c)) (λ y.
       let w = headOf-sound t s k n b e in
       let l = value-size t s k n w in
+      let g = w .short in
       let x′ = ltb-false n lo x in
       let y′ = ltb-false hi n y in
       let o = ih (base + (k + n)) (drop (k + n) s) (noted r (base + k) n) (bytes-drop (k + n) s b) (simp (x, y) at c) in
@@ -231,9 +233,11 @@ module _ (t lo hi : ℕ) (f : Form) (d : ℕ) (ih : Sound f d) (base : ℕ) (s :
         value = take n (drop k s);
         least = omega arith;
         most = omega arith;
+        short = omega arith;
         values = o .values;
         bytes = split t s k n w ∙ ap (λ (u : List ℕ). tlv t (take n (drop k s)) ++ u) (o .bytes);
         sized = o .sized;
+        fitting = o .fitting;
         within = o .within;
       })))
 
@@ -245,7 +249,7 @@ module _ (t lo hi : ℕ) (f : Form) (d : ℕ) (ih : Sound f d) (base : ℕ) (s :
 sound-nested : (t : ℕ) (g f : Form) (d : ℕ) → Sound g (d - 1) → Sound f d → (base : ℕ) (s : List ℕ) (r : Reading) → AllBytes s → 1 ≤ d → (h : Head) → headOf t s ≡ h
     → isClean ((onHead h (λ start len. let q = readForm g (d - 1) (base + start) (take len (drop start s)) r in
     ifElse (isClean (q .fault)) (readForm f d (base + (start + len)) (drop (start + len) s) q) q) (spoilt r Tag base) (spoilt r Length base)) .fault) ≡ true → Found (nested t g f) d s
-unfolding encode deep Sized
+unfolding encode deep Sized Fitting
 sound-nested t g f d ig ih base s r b m NoTag e c = false-true c
 sound-nested t g f d ig ih base s r b m NoLength e c = false-true c
 sound-nested t g f d ig ih base s r b m (Body k n) e c =
@@ -258,32 +262,36 @@ sound-nested t g f d ig ih base s r b m (Body k n) e c =
     let o = ih (base + (k + n)) (drop (k + n) s) q (bytes-drop (k + n) s b) (simp x at c) in
     let u = o .within in
     let v = p .within in
+    let l = value-size t s k n w in
+    let y = w .short in
+    let z = ap length (p .bytes) in
     record {
       values = (p .values, o .values);
       bytes = split t s k n w ∙ ap₂ (λ (x y : List ℕ). tlv t x ++ y) (p .bytes) (o .bytes);
       sized = (p .sized, o .sized);
+      fitting = (omega arith, p .fitting, o .fitting);
       within = omega arith;
     })
     (λ x. false-true (simp x at c))
 
 sound : (f : Form) (d : ℕ) → Sound f d
-unfolding readForm encode perhaps deep Sized
+unfolding readForm encode perhaps deep Sized Fitting
 sound done d base s r b c =
     by-cases (eqb (length s) 0)
-    (λ e. record { values = tt; bytes = none-left s (eqb-true (length s) 0 e); sized = tt; within = omega arith })
+    (λ e. record { values = tt; bytes = none-left s (eqb-true (length s) 0 e); sized = tt; fitting = tt; within = omega arith })
     (λ e. false-true (simp e at c))
 sound (plain t lo hi f) d base s r b c =
     let x = sound-value t lo hi f d (sound f d) base s r _ b c in
     let m = x .0 in
     ⊎-elim (λ y. false-true y)
-    (λ y. let u = y .within in record { values = (y .value, y .values); bytes = y .bytes; sized = (y .least, y .most, y .sized); within = omega arith })
+    (λ y. let u = y .within in record { values = (y .value, y .values); bytes = y .bytes; sized = (y .least, y .most, y .sized); fitting = (y .short, y .fitting); within = omega arith })
     (x .1)
 sound (maybe t lo hi f) d base s r b c =
     let x = sound-value t lo hi f d (sound f d) base s r _ b c in
     let m = x .0 in
     ⊎-elim
-    (λ y. let o = sound f d base s (noted r 0 0) b y in let u = o .within in record { values = (absent, o .values); bytes = o .bytes; sized = (tt, o .sized); within = omega arith })
-    (λ y. let u = y .within in record { values = (present (y .value), y .values); bytes = y .bytes; sized = ((y .least, y .most), y .sized); within = omega arith })
+    (λ y. let o = sound f d base s (noted r 0 0) b y in let u = o .within in record { values = (absent, o .values); bytes = o .bytes; sized = (tt, o .sized); fitting = (lit< tt, o .fitting); within = omega arith })
+    (λ y. let u = y .within in record { values = (present (y .value), y .values); bytes = y .bytes; sized = ((y .least, y .most), y .sized); fitting = (y .short, y .fitting); within = omega arith })
     (x .1)
 sound (nested t g f) d base s r b c =
     by-cases (eqb d 0) (λ e. false-true (simp e at c))
@@ -303,7 +311,7 @@ fresh-notes s = record { clean = refl; count = refl; starts = refl; lens = refl;
 
 module _ (f : Form) (p : Proper f) (few : leafCount f ≤ 13) where
   -- every writing is read clean, and its values are noted, where they stand
-  module _ (q : deep f ≤ 4) (v : Values f) (x : Sized f v) (z : length (encode f v) < 65536) where
+  module _ (q : deep f ≤ 4) (v : Values f) (x : Sized f v) (z : Fitting f v) where
     all-at : NotedAt (encode f v) (readAll f (encode f v)) (leaves f v) (placesAt f v 0)
     unfolding placePairs
     all-at =
@@ -321,7 +329,7 @@ module _ (f : Form) (p : Proper f) (few : leafCount f ≤ 13) where
 
   pub read-complete : deep f ≤ 4 → (v : Values f) → Sized f v → length (encode f v) < 65536 → Noted (encode f v) (readBy f (encode f v)) (leaves f v)
   unfolding readBy
-  read-complete q v x z = simp (le-ltb 65535 (length (encode f v)) (omega arith)) (all-complete q v x z)
+  read-complete q v x z = simp (le-ltb 65535 (length (encode f v)) (omega arith)) (all-complete q v x (short-fitting f v z))
 
   -- what is read clean is a writing
   pub all-sound : (s : List ℕ) → AllBytes s → isClean ((readAll f s) .fault) ≡ true → Found f 4 s

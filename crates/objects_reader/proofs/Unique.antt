@@ -24,11 +24,9 @@ module _ (t : ℕ) (a e : List ℕ) where
   pub object-size : length (tlv t a ++ e) ≡ headSize t (length a) + length a + length e
   object-size = simp (length-append, length-tlv)
 
-  pub object-head : t < 65536 → length (tlv t a ++ e) < 65536 → headOf t (tlv t a ++ e) ≡ Body (headSize t (length a)) (length a)
+  pub object-head : t < 65536 → length a < 65536 → headOf t (tlv t a ++ e) ≡ Body (headSize t (length a)) (length a)
   unfolding tlv
-  object-head p q =
-      let z = object-size in
-      simp append-assoc (headOf-complete t (length a) (a ++ e) p (omega arith) (simp length-append (omega arith)))
+  object-head p q = simp append-assoc (headOf-complete t (length a) (a ++ e) p q (simp length-append (omega arith)))
 
   pub object-value : take (length a) (drop (headSize t (length a)) (tlv t a ++ e)) ≡ a
   unfolding tlv
@@ -60,18 +58,21 @@ follows-head t (nested t′ g f) v a = follows-tlv t t′ (encode g (v .0)) (enc
 same-object : (t : ℕ) (a b e g : List ℕ) → t < 65536 → length (tlv t a ++ e) < 65536 → tlv t a ++ e ≡ tlv t b ++ g → (a ≡ b) × (e ≡ g)
 same-object t a b e g p q h =
     let k = ap length h in
-    let x = object-head t a e p q in
+    let l = object-size t a e in
+    let m = object-size t b g in
+    let x = object-head t a e p (omega arith) in
     let y = object-head t b g p (omega arith) in
     let z : Body (headSize t (length a)) (length a) ≡ Body (headSize t (length b)) (length b) = sym x ∙ ap (headOf t) h ∙ y in
     let n : length a ≡ length b = cc in
-    let m = ap (headSize t) n in (
+    let u = ap (headSize t) n in (
       sym (object-value t a e) ∙ cc (object-value t b g),
       sym (object-rest t a e) ∙ cc (object-rest t b g),
     )
 
 no-object : {A : Type 0} (t : ℕ) (a e l : List ℕ) → t < 65536 → length (tlv t a ++ e) < 65536 → headOf t l ≡ NoTag → l ≡ tlv t a ++ e → A
 no-object t a e l p q h k =
-    let x = object-head t a e p q in
+    let l = object-size t a e in
+    let x = object-head t a e p (omega arith) in
     let y = ap (headOf t) k in
     let z : _≡_ {A = ℕ} 0 1 = cc in absurd (omega arith)
 

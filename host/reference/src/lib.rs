@@ -13,13 +13,15 @@
 //! - `moving`: the move of a card to rooms of other sizes;
 //! - `certificates`: the certificate that a stamp names, on the card or in the desk's copy;
 //! - `index`: the places of a body's records, kept to read a record without a walk;
-//! - `stamp`: the places of a stamp's fields, or its first fault.
+//! - `stamp`: the places of a stamp's fields, or its first fault;
+//! - `extensions`: the rights bytes of a chain, from the extensions of its certificates.
 
 #![forbid(unsafe_code)]
 
 mod apdu;
 mod certificates;
 mod commands;
+mod extensions;
 mod image;
 mod index;
 mod moving;
@@ -41,8 +43,10 @@ pub const SESSION_LEN: usize = 25;
 /// The shortest response buffer that a command takes.
 const SHORTEST_RESPONSE: usize = 2_050;
 
-/// Why a call gets no status word. 6 is of an index, 9 of a stamp's certificate, 10 to 13 are of a
-/// move, 15 is of a list too short for a stamp's places.
+/// Why a call gets no status word. 1 is of a buffer too short for a chain's rights too, 6 is of an
+/// index, 7 and 8 are of certificate extensions (bad nesting or size; a known one twice in a run),
+/// 9 is of a stamp's certificate, 10 to 13 are of a move, 15 is of a list too short for a stamp's
+/// places.
 #[derive(Clone, Copy)]
 enum Refusal {
     Response = 1,
@@ -50,6 +54,8 @@ enum Refusal {
     Rights = 3,
     Session = 4,
     Index = 6,
+    Extension = 7,
+    Twice = 8,
     Certificates = 9,
     List = 10,
     Missing = 11,
@@ -184,6 +190,28 @@ pub fn index_read(body: &[u8], places: &[u32], number: usize) -> u64 {
         Ok(record) => record.len() as u64,
         Err(refusal) => refusal.result(),
     }
+}
+
+/// Reads the rights of a chain from its certificates: writes the 60 bytes that [`open`] takes to
+/// the start of the buffer, from three runs of extensions, the first for the first certificate and
+/// so on. The bytes behind these 60 stay.
+///
+/// Refusal 7 is for bytes that are no whole extension, and for a known one whose rights have
+/// another size. Refusal 8 is for a known one that its run had before. The first faulty extension
+/// is told, 7 before 8, and 60 zeros are written, for a refused chain must open nothing.
+///
+/// A buffer of fewer than 60 bytes is refusal 1, before all, and stays untouched. The result is
+/// refusal * 2^32.
+pub fn rights(first: &[u8], second: &[u8], third: &[u8], rights: &mut [u8]) -> u64 {
+    let Some(written) = rights.first_chunk_mut() else {
+        return Refusal::Response.result();
+    };
+    let (chain, result) = match extensions::chain([first, second, third]) {
+        Ok(chain) => (chain, 0),
+        Err(refusal) => ([0; rights::CHAIN_LEN], refusal.result()),
+    };
+    *written = chain;
+    result
 }
 
 /// The session in the first 25 bytes of a buffer, if they are one.

@@ -1,18 +1,20 @@
 //! Data objects: reading them out of a data field, and what the three commands that send some
 //! say with them. Where a function here gives None, the command's answer is 6A80.
+//!
+//! Stamps and certificate extensions have the same objects, but answers of their own.
 
 /// How deep objects may be nested.
 const DEEPEST: usize = 4;
 
 /// Data objects that stand side by side, and how deep objects may still be nested from here.
-struct Objects<'a> {
+pub struct Objects<'a> {
     rest: &'a [u8],
     depth: usize,
 }
 
 impl<'a> Objects<'a> {
-    /// The objects of a command's data field.
-    fn of(data: &'a [u8]) -> Self {
+    /// The objects of a command's data field, or of a run of certificate extensions.
+    pub fn of(data: &'a [u8]) -> Self {
         Self {
             rest: data,
             depth: DEEPEST,
@@ -20,7 +22,7 @@ impl<'a> Objects<'a> {
     }
 
     /// The value of the next object, which must have this tag: the order is fixed.
-    fn value(&mut self, tag: &[u8]) -> Option<&'a [u8]> {
+    pub fn value(&mut self, tag: &[u8]) -> Option<&'a [u8]> {
         if self.depth == 0 {
             return None;
         }
@@ -31,7 +33,7 @@ impl<'a> Objects<'a> {
     }
 
     /// The objects inside the next object, which must have this tag.
-    fn inside(&mut self, tag: &[u8]) -> Option<Objects<'a>> {
+    pub fn inside(&mut self, tag: &[u8]) -> Option<Objects<'a>> {
         let value = self.value(tag)?;
         Some(Objects {
             rest: value,
@@ -48,9 +50,14 @@ impl<'a> Objects<'a> {
         }
     }
 
+    /// Whether no byte is left, where any number of objects may stand.
+    pub fn is_empty(&self) -> bool {
+        self.rest.is_empty()
+    }
+
     /// No further object may stand here.
-    fn end(self) -> Option<()> {
-        self.rest.is_empty().then_some(())
+    pub fn end(self) -> Option<()> {
+        self.is_empty().then_some(())
     }
 }
 

@@ -8,9 +8,9 @@ pub const RIGHTS_LEN: usize = 20;
 pub const CHAIN_LEN: usize = 3 * RIGHTS_LEN;
 
 /// A flag tells that the certificate has the extension of an application.
-const TRAVEL_FLAG: u8 = 0x01;
-const VISA_FLAG: u8 = 0x02;
-const BIOMETRICS_FLAG: u8 = 0x04;
+pub const TRAVEL_FLAG: u8 = 0x01;
+pub const VISA_FLAG: u8 = 0x02;
+pub const BIOMETRICS_FLAG: u8 = 0x04;
 
 /// The bits of the travel byte, and of the visa byte.
 const READ_RECORDS: u8 = 0x01;
