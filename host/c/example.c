@@ -1,7 +1,8 @@
 /* Selects the travel application of a card, appends a record and reads it back; then moves the card to rooms of 100 bytes
  * and reads the record there. Appends a certificate there too, and asks for certificates by number, of that card and of a
- * desk that has one more. Then keeps an index while a second record is appended, and reads that record by its place. Last
- * reads a stamp, and says why another record is none. */
+ * desk that has one more. Then keeps an index while a second record is appended, and reads that record by its place. Then
+ * reads a stamp, and says why another record is none. Last reads rights from the extensions of three certificates and opens
+ * with them, and shows what is opened after a refusal. */
 #include <stdio.h>
 #include <string.h>
 #include "malquindo.h"
@@ -137,6 +138,45 @@ static int stamps(void)
     return stamp(record, length);
 }
 
+/* Opens a session with the rights that three certificates with this run of extensions give, and shows its rights: the flags,
+ * the travel byte and the visa byte. */
+static int chain(const uint8_t *run, size_t run_len)
+{
+    uint8_t rights[MALQUINDO_RIGHTS_LEN];
+    uint64_t result = malquindo_rights(run, run_len, run, run_len, run, run_len, rights, sizeof rights);
+    if (malquindo_open(rights, sizeof rights, session, sizeof session) != 0)
+        return 1;
+    switch (malquindo_refusal(result)) {
+    case 0:
+        printf("rights: ");
+        break;
+    case 7:
+        printf("a bad extension: ");
+        break;
+    case 8:
+        printf("an extension twice: ");
+        break;
+    default:
+        return 1;
+    }
+    print(session, 3);
+    return 0;
+}
+
+/* Certificates with two extensions; with the second one cut short; with the first one twice. After a refusal the session that
+ * is opened has no rights. */
+static int chains(void)
+{
+    static const uint8_t run[] = {
+        0x73, 0x0D, 0x06, 0x08, 0x67, 0x81, 0x08, 0x01, 0x01, 0x09, 0x01, 0x03, 0x53, 0x01, 0x0F, /* travel: all rights */
+        0x73, 0x0D, 0x06, 0x08, 0x67, 0x81, 0x08, 0x01, 0x01, 0x09, 0x02, 0x03, 0x53, 0x01, 0x01, /* visa: read records */
+    };
+    uint8_t twice[sizeof run];
+    memcpy(twice, run, 15);
+    memcpy(twice + 15, run, 15);
+    return chain(run, sizeof run) || chain(run, sizeof run - 1) || chain(twice, sizeof twice);
+}
+
 int main(void)
 {
     static const uint8_t select[] = {0x00, 0xA4, 0x04, 0x0C, 0x07, 0xA0, 0x00, 0x00, 0x02, 0x47, 0x20, 0x01};
@@ -152,5 +192,5 @@ int main(void)
     return run(image, sizeof image, select, sizeof select) || run(image, sizeof image, append, sizeof append)
         || run(image, sizeof image, read, sizeof read) || move_card() || run(larger, sizeof larger, read, sizeof read)
         || run(larger, sizeof larger, append_certificate, sizeof append_certificate)
-        || certificate(1) || certificate(2) || certificate(3) || indexed() || stamps();
+        || certificate(1) || certificate(2) || certificate(3) || indexed() || stamps() || chains();
 }

@@ -52,6 +52,19 @@ An index of EntryRecords, which reads a record without a walk over those before 
     >>> index
     Index(0x0101, [2, 10, 18])
 
+Rights from the extensions of three certificates, to open with. Where a certificate is refused there are none, and that is an exception:
+
+    >>> travel = bytes.fromhex('730D 0608 6781080101090103 53010F')     # travel, all its rights
+    >>> rights = malquindo.rights(travel, travel, travel)
+    >>> rights[:3].hex()
+    '010f00'
+    >>> malquindo.open(rights)[:3].hex()
+    '010f00'
+    >>> malquindo.rights(travel, travel + travel, travel)
+    Traceback (most recent call last):
+    ...
+    malquindo.Refused: 8 SECOND_EXTENSION: a certificate has a known extension twice
+
 A stamp, which is a travel record by Table 11 of ICAO's LDS2 report. A record that is none has a fault, and that is an exception:
 
     >>> record = bytes.fromhex('5F440355544F 731D 5F440355544F 5F45083230323631313136 5F4B0141 5F46014C 5F4A0149 5F3701A5 5F380102')
@@ -70,10 +83,10 @@ A status word is an answer, whatever it says. A call that gets none is refused, 
     ...
     malquindo.Refused: 2 BAD_IMAGE: the image is not well formed
 
-open, command, move_card, file, certificate, Index and read_stamp are for most callers. malquindo_open, malquindo_command, malquindo_move,
-malquindo_file, malquindo_certificate, malquindo_index_build, malquindo_index_extend, malquindo_index_read and malquindo_stamp_read are the
-functions of the header themselves: they take every buffer of the call and answer the number of 64 bits, so that a test can lend a buffer
-that is too short.
+rights, open, command, move_card, file, certificate, Index and read_stamp are for most callers. malquindo_rights, malquindo_open,
+malquindo_command, malquindo_move, malquindo_file, malquindo_certificate, malquindo_index_build, malquindo_index_extend, malquindo_index_read
+and malquindo_stamp_read are the functions of the header themselves: they take every buffer of the call and answer the number of 64 bits, so
+that a test can lend a buffer that is too short.
 
 Buffers are bytes, bytearray or memoryview. One that is written, such as the image, is no bytes object. A list of places is an array.array
 of 32-bit numbers, array.array('I'), or a memoryview of one. Each length is that of the buffer; a type that does not fit is a TypeError, and
@@ -92,10 +105,10 @@ import sys
 from typing import Iterable, NamedTuple, Optional, Tuple, Union
 
 __all__ = ['RIGHTS_LEN', 'SESSION_LEN', 'RESPONSE_LEN', 'IMAGE_LEN', 'RECORDS', 'STAMP_LEN', 'STAMP_PLACES', 'Refusal', 'Refused', 'Answer',
-           'Source', 'Certificate', 'Index', 'StampField', 'Reason', 'StampFault', 'Stamp', 'open', 'command', 'move_card', 'file',
+           'Source', 'Certificate', 'Index', 'StampField', 'Reason', 'StampFault', 'Stamp', 'rights', 'open', 'command', 'move_card', 'file',
            'certificate', 'read_stamp',
-           'malquindo_session_len', 'malquindo_open', 'malquindo_command', 'malquindo_move', 'malquindo_file', 'malquindo_certificate',
-           'malquindo_index_build', 'malquindo_index_extend', 'malquindo_index_read', 'malquindo_stamp_read',
+           'malquindo_session_len', 'malquindo_rights', 'malquindo_open', 'malquindo_command', 'malquindo_move', 'malquindo_file',
+           'malquindo_certificate', 'malquindo_index_build', 'malquindo_index_extend', 'malquindo_index_read', 'malquindo_stamp_read',
            'malquindo_refusal', 'malquindo_length', 'malquindo_status', 'malquindo_moved', 'malquindo_file_place', 'malquindo_file_length',
            'malquindo_certificate_which', 'malquindo_certificate_place', 'malquindo_certificate_length', 'malquindo_index_places',
            'malquindo_index_length', 'malquindo_stamp_reason', 'malquindo_stamp_offset', 'malquindo_stamp_place', 'malquindo_stamp_length']
@@ -121,12 +134,15 @@ Places = Union[array.array, memoryview]
 
 
 class Refusal(enum.IntEnum):
-    """Why a call got no status word, no new image, no index, no record, no certificate or no stamp. The numbers are those of the header."""
+    """Why a call got no status word, no rights, no new image, no index, no record, no certificate or no stamp. The numbers are those of the
+    header."""
     SHORT_BUFFER = 1
     BAD_IMAGE = 2
     BAD_RIGHTS = 3
     BAD_SESSION = 4
     BAD_INDEX = 6
+    BAD_EXTENSION = 7
+    SECOND_EXTENSION = 8
     BAD_CERTIFICATES = 9
     BAD_LIST = 10
     MISSING_KIND = 11
@@ -136,11 +152,13 @@ class Refusal(enum.IntEnum):
 
 
 REFUSAL_WORDS = {
-    Refusal.SHORT_BUFFER: 'the response buffer is shorter than 2,050 bytes',
+    Refusal.SHORT_BUFFER: 'the response buffer is shorter than 2,050 bytes, or that for the rights shorter than 60',
     Refusal.BAD_IMAGE: 'the image is not well formed',
     Refusal.BAD_RIGHTS: 'the rights are not 60 bytes',
     Refusal.BAD_SESSION: 'the session is malformed, or does not fit the image',
     Refusal.BAD_INDEX: 'the body, the index or the number does not fit',
+    Refusal.BAD_EXTENSION: 'an extension is not well formed, or its rights have another size',
+    Refusal.SECOND_EXTENSION: 'a certificate has a known extension twice',
     Refusal.BAD_CERTIFICATES: 'a body of travel certificates is not well formed',
     Refusal.BAD_LIST: 'the list of rooms lays out no valid image',
     Refusal.MISSING_KIND: 'a file of the old card has no room in the list',
@@ -304,6 +322,18 @@ class Stamp(NamedTuple):
     reference: int                  # the number of a travel certificate, 0x01 to 0xFE, as `certificate` takes it
 
 
+def rights(first: Buffer, second: Buffer, third: Buffer) -> bytes:
+    """The rights of three certificates, each read from the run of its extensions: the bytes that `open` takes. Refused where a run is not in
+    order, even if the others are.
+
+    An extension is 73{06 identifier, 53 rights}. Those of travel, visa and biometrics are known and stand in any order; any other is passed
+    over, whatever rights it has. What is absent is zero. A certificate without extensions is b''.
+    """
+    buffer = bytearray(RIGHTS_LEN)
+    accept(malquindo_rights(first, second, third, buffer))
+    return bytes(buffer)
+
+
 def open(rights: Buffer) -> bytearray:
     """A session with the rights of three certificates of 20 bytes each. A command changes it in place."""
     session = bytearray(SESSION_LEN)
@@ -371,6 +401,11 @@ def read_stamp(record: Buffer) -> Stamp:
 def malquindo_session_len() -> int:
     """How many bytes a session has."""
     return library().malquindo_session_len()
+
+
+def malquindo_rights(first: Buffer, second: Buffer, third: Buffer, rights: Written) -> int:
+    """Writes the rights of three runs of extensions into their buffer; zeros on refusals 7 and 8. The result is refusal * 2^32."""
+    return call(library().malquindo_rights, read('first', first), read('second', second), read('third', third), written('rights', rights))
 
 
 def malquindo_open(rights: Buffer, session: Written) -> int:
@@ -613,7 +648,7 @@ def call(function: ctypes._CFuncPtr, *arguments: Union[Lent, int]) -> int:
 # What each function takes. A buffer is a pointer and a length.
 BYTES = [ctypes.POINTER(ctypes.c_ubyte), ctypes.c_size_t]
 PLACES = [ctypes.POINTER(ctypes.c_uint32), ctypes.c_size_t]
-FUNCTIONS = {'malquindo_open': 2 * BYTES, 'malquindo_command': 4 * BYTES, 'malquindo_move': 3 * BYTES,
+FUNCTIONS = {'malquindo_rights': 4 * BYTES, 'malquindo_open': 2 * BYTES, 'malquindo_command': 4 * BYTES, 'malquindo_move': 3 * BYTES,
              'malquindo_file': BYTES + [ctypes.c_uint16], 'malquindo_certificate': 2 * BYTES + [ctypes.c_uint8],
              'malquindo_index_build': [ctypes.c_uint16] + BYTES + PLACES,
              'malquindo_index_extend': [ctypes.c_uint16] + BYTES + PLACES + [ctypes.c_size_t],

@@ -100,6 +100,7 @@ class Empty(Case):
         self.answers(malquindo.malquindo_open(ALL_RIGHTS, bytearray()), Refusal.BAD_SESSION)
 
     def test_every_buffer_empty(self):
+        self.answers(malquindo.malquindo_rights(b'', b'', b'', bytearray()), Refusal.SHORT_BUFFER)
         self.answers(malquindo.malquindo_open(b'', bytearray()), Refusal.BAD_RIGHTS)
         self.answers(malquindo.malquindo_command(bytearray(), bytearray(), b'', bytearray()), Refusal.SHORT_BUFFER)
         self.assertEqual(malquindo.malquindo_move(b'', b'', bytearray()), 0)
@@ -659,9 +660,138 @@ class Stamps(Case):
         self.assertEqual(str(malquindo.certificate(card, bytes(2), stamp.reference)), 'CARD 7F21C1')
 
 
+class Rights(Case):
+    ORDERS = ((), (0,), (1,), (2,), (0, 1), (0, 2), (1, 0), (1, 2), (2, 0), (2, 1),
+              (0, 1, 2), (0, 2, 1), (1, 0, 2), (1, 2, 0), (2, 0, 1), (2, 1, 0))
+    KNOWN = (b'\xF1', b'\xF2', bytes(range(0x31, 0x31 + 17)))
+
+    @staticmethod
+    def object(tag, value):
+        size = len(value)
+        length = bytes([size]) if size < 0x80 else bytes([0x81, size]) if size < 0x100 else b'\x82' + size.to_bytes(2, 'big')
+        return bytes([tag]) + length + value
+
+    def extension(self, identifier, rights):
+        return self.object(0x73, self.object(0x06, identifier) + self.object(0x53, rights))
+
+    @staticmethod
+    def identifier(which):
+        return bytes([0x67, 0x81, 0x08, 0x01, 0x01, 0x09, which + 1, 0x03])
+
+    def known(self, *order):
+        return b''.join(self.extension(self.identifier(which), self.KNOWN[which]) for which in order)
+
+    def given(self, order):
+        """What a run of these known ones gives."""
+        parts = [value if which in order else bytes(len(value)) for which, value in enumerate(self.KNOWN)]
+        return bytes([sum(1 << which for which in order)]) + b''.join(parts)
+
+    def alone(self, run, expected):
+        """The run gives this in each of the three places, where the others are empty; a Refusal is one."""
+        for place in range(3):
+            runs = [run if at == place else b'' for at in range(3)]
+            if isinstance(expected, Refusal):
+                self.refused(expected, malquindo.rights, *runs)
+            else:
+                self.assertEqual(malquindo.rights(*runs), bytes(20 * place) + expected + bytes(40 - 20 * place))
+
+    def test_every_order(self):
+        for order in self.ORDERS:
+            self.alone(self.known(*order), self.given(order))
+        self.assertEqual(malquindo.rights(self.known(0), self.known(2, 1), self.known(1)),
+                         self.given((0,)) + self.given((1, 2)) + self.given((1,)))
+        self.assertEqual(malquindo.rights(b'', b'', b''), bytes(60))
+
+    def test_unknown_ones_are_passed_over(self):
+        known = self.identifier(0)
+        for identifier in (b'', known[:7], known + b'\x00', b'\x66' + known[1:], known[:6] + b'\x04\x03', bytes(300)):
+            for size in (0, 1, 17, 127, 128, 255, 256, 60000):
+                unknown = self.extension(identifier, b'\xFF' * size)
+                self.alone(unknown + self.known(1) + unknown, self.given((1,)))
+        longest = self.extension(b'', bytes(65529))
+        self.assertEqual(len(longest), 65539)
+        self.alone(longest + self.known(2), self.given((2,)))
+
+    def test_bad_extensions(self):
+        good = self.known(0)
+        for length in range(1, len(good)):
+            self.alone(good[:length], Refusal.BAD_EXTENSION)
+        identifier, value = good[2:12], good[12:]
+        for inside in (b'', identifier, value, value + identifier, identifier + value + b'\x00', identifier + value + value,
+                       identifier + b'\x53\x81\x01\x0F', identifier + b'\x53\x02\x0F'):
+            self.alone(self.object(0x73, inside), Refusal.BAD_EXTENSION)
+        self.alone(b'\x72' + good[1:], Refusal.BAD_EXTENSION)
+        self.alone(good + b'\x00', Refusal.BAD_EXTENSION)
+        for which, value in enumerate(self.KNOWN):
+            for size in set(range(20)) - {len(value)}:
+                self.alone(self.extension(self.identifier(which), bytes(size)), Refusal.BAD_EXTENSION)
+
+    def test_a_known_one_twice(self):
+        for which in range(3):
+            known = self.known(which)
+            self.alone(known + known, Refusal.SECOND_EXTENSION)
+            self.alone(known + self.extension(b'', b'') + known, Refusal.SECOND_EXTENSION)
+            self.assertEqual(malquindo.rights(known, known, known), 3 * self.given((which,)))
+            # Of the second one both are true.
+            self.alone(known + self.extension(self.identifier(which), b''), Refusal.BAD_EXTENSION)
+
+    def test_the_first_fault_is_told(self):
+        bad, twice = b'\x73', self.known(0, 0)
+        self.refused(Refusal.BAD_EXTENSION, malquindo.rights, bad, twice, b'')
+        self.refused(Refusal.SECOND_EXTENSION, malquindo.rights, twice, bad, b'')
+        self.refused(Refusal.SECOND_EXTENSION, malquindo.rights, b'', twice, bad)
+        self.alone(twice + bad, Refusal.SECOND_EXTENSION)
+        self.alone(self.known(0) + bad + self.known(0), Refusal.BAD_EXTENSION)
+
+    def test_the_buffer(self):
+        good = self.known(0, 1, 2)
+        for count in (0, 1, 59):
+            for third in (good, b'\x73', good + good):
+                buffer = bytearray(b'\xA5' * count)
+                self.answers(malquindo.malquindo_rights(good, good, third, buffer), Refusal.SHORT_BUFFER)
+                self.assertEqual(buffer, b'\xA5' * count)
+        for count in (60, 61, 100):
+            for third, refusal in ((b'\x73', Refusal.BAD_EXTENSION), (good + good, Refusal.SECOND_EXTENSION)):
+                buffer = bytearray(b'\xA5' * count)
+                self.answers(malquindo.malquindo_rights(good, good, third, buffer), refusal)
+                self.assertEqual(buffer, bytes(60) + b'\xA5' * (count - 60))
+                self.assertEqual(malquindo.open(buffer[:60]), bytes(25))
+            self.assertEqual(malquindo.malquindo_rights(good, good, b'', buffer), 0)
+            self.assertEqual(buffer, 2 * self.given((0, 1, 2)) + bytes(20) + b'\xA5' * (count - 60))
+        shelf = bytearray(b'\xA5' * 64)
+        self.assertEqual(malquindo.malquindo_rights(good, good, good, memoryview(shelf)[2:62]), 0)
+        self.assertEqual((shelf[:2], shelf[62:]), (b'\xA5' * 2, b'\xA5' * 2))
+
+    def test_any_buffer(self):
+        run = self.known(0)
+        expected = malquindo.rights(run, run, run)
+        pairs = memoryview(array.array('H', run + b'\x00')).cast('B')[:len(run)]
+        for buffer in (bytearray(run), memoryview(run), memoryview(b'\x00' + run)[1:], pairs):
+            self.assertEqual(malquindo.rights(buffer, run, buffer), expected)
+        # One run may be lent three times, and overlap the buffer: what is only read is copied first.
+        shelf = bytearray(run + bytes(60))
+        self.assertEqual(malquindo.malquindo_rights(shelf[:15], memoryview(shelf)[:15], run, memoryview(shelf)[:60]), 0)
+        self.assertEqual(shelf[:60], expected)
+
+    def test_wrong_arguments(self):
+        run = self.known(0)
+        for wrong in ('7300', 7, None, [0, 1]):
+            for place in range(3):
+                runs = [wrong if at == place else run for at in range(3)]
+                self.assertRaises(TypeError, malquindo.rights, *runs)
+            self.assertRaises(TypeError, malquindo.malquindo_rights, run, run, run, wrong)
+        self.assertRaises(TypeError, malquindo.malquindo_rights, run, run, run, bytes(60))
+
+    def test_of_a_card(self):
+        travel, visa = self.known(0), self.known(1)
+        for third, status in ((travel, 0x9000), (visa + travel, 0x9000), (visa, 0x6982), (b'', 0x6982)):
+            session = malquindo.open(malquindo.rights(travel, visa + travel, third))
+            self.assertEqual(malquindo.command(self.image, session, SELECT).status, status)
+
+
 class Refusals(Case):
     def test_the_numbers(self):
-        self.assertEqual(sorted(Refusal), [1, 2, 3, 4, 6, 9, 10, 11, 12, 13, 15])
+        self.assertEqual(sorted(Refusal), [1, 2, 3, 4, 6, 7, 8, 9, 10, 11, 12, 13, 15])
         self.assertEqual(malquindo.accept(0x29000), 0x29000)
         self.assertEqual(set(malquindo.REFUSAL_WORDS), set(Refusal))
         self.assertEqual(malquindo.Refused(99).refusal, 99)

@@ -2,9 +2,9 @@
 """Makes what the program `program_terminal` is run on, and what it must write: crates/program_terminal/stdin, stdout, args and data/.
 
 The card is the card to try of docs/RULES.md, in a file, with a larger room for ExitRecords, so that it can hold stamps. The input is
-demo/worked.apdu, then lines that cannot be read, rights in hexadecimal and in words, where the session stands, help, long lines, what the card holds, moves, certificates by their references, and stamps. The
+demo/worked.apdu, then lines that cannot be read, rights in the extensions of certificates, in hexadecimal and in words, where the session stands, help, long lines, what the card holds, moves, certificates by their references, and stamps. The
 answers to the commands are the ones that the source of the rules prints, and for the search by 08 the one of clause T1; the rights follow
-section B of the rules, the certificates section P, the stamps section TR; the words are those of the tables below.
+section B of the rules, the extensions section CE, the certificates section P, the stamps section TR; the words are those of the tables below.
 
 The gate compares standard output alone. `run.py` beside this file compares standard error and the exit status, too.
 
@@ -36,6 +36,8 @@ CANNOT = "! this line cannot be read, and nothing is changed: "
 TOO_LONG = "! this line is longer than 65,536 bytes, and nothing is changed"
 OPENED = "= session opened"
 MOVED = "= moved to a new file"
+MALFORMED = "! refused (7): an extension is not well formed, or its rights have another size"
+TWICE = "! refused (8): a certificate has a known extension twice"
 NO_CERTIFICATES = "! refused (9): the card or the copy has no well-formed body of travel certificates"
 
 # the longest line that is read, and more input than the room for an image has
@@ -49,6 +51,8 @@ Each line is answered. Spaces may stand anywhere in hexadecimal; # starts a comm
   open travel=read,append visa=read biometrics5=write
                               opens a session with what a certificate would grant
   open FFFF ... FF            opens a session with three certificates, 60 bytes in hexadecimal
+  certificates RUN RUN RUN    opens a session with the rights in the extensions of three certificates, and says which these are
+                              (a run is hexadecimal without spaces, `-` without extensions)
   rights                      says what the session may do
   session                     says the session's application, file and record
   show                        lists what the card holds
@@ -138,6 +142,29 @@ def in_words(rights):
     return " ".join(name + ("=" + ",".join(granted) if granted else "") for name, granted in rights)
 
 
+def object_of(tag, value):
+    """D1, D2"""
+    n = len(value)
+    size = bytes([n]) if n < 0x80 else bytes([0x81, n]) if n < 0x100 else bytes([0x82, *n.to_bytes(2, "big")])
+    return tag.to_bytes(2 if tag > 0xFF else 1, "big") + size + value
+
+
+# CE3: the identifiers that are known
+IDENTIFIERS = {name: bytes.fromhex("678108010109") + bytes([n, 3]) for n, name in enumerate(("travel", "visa", "biometrics"), 1)}
+
+
+def extension(identifier, rights):
+    """CE1: an extension in hexadecimal"""
+    return object_of(0x73, object_of(0x06, identifier) + object_of(0x53, rights)).hex()
+
+
+def run_of(rights):
+    """CE4, CE5: the extensions of a certificate that grants a list of (name, rights)"""
+    c = certificate(rights)
+    places = (("travel", 1, 2), ("visa", 2, 3), ("biometrics", 3, 20))
+    return "".join(extension(IDENTIFIERS[name], c[a:b]) for i, (name, a, b) in enumerate(places) if c[0] >> i & 1) or "-"
+
+
 class Cases:
     """The lines of the input and what is answered: standard output and standard error; and the records of ExitRecords after all."""
 
@@ -200,6 +227,34 @@ def unreadable(c):
         c.cannot(line)
     c.says("rights", "= rights: all")
     c.says("show", *shown(*RECORDS))
+
+
+def extensions(c):
+    """Sessions opened with the extensions of three certificates: what they may do, and what is refused."""
+    travel, more = [("travel", ["read"])], [("travel", ["read", "append"]), ("visa", ["read"]), ("biometrics5", ["write"])]
+    files = [("biometrics", ["read-certificates"]), ("biometrics1", ["read", "write"]), ("biometrics64", ["read"])]
+    for granted in (travel, more, files, [("visa", [])]):
+        c.says("certificates " + " ".join([run_of(granted)] * 3), OPENED, "= rights: " + in_words(granted))
+    # what all three have; any order, with an extension that is not known among them; small and capital letters
+    run, unknown = run_of(more), extension(b"", bytes(300))
+    c.says(f" certificates  {run}\t{run_of(travel).upper()} {run} # words", OPENED, "= rights: travel=read")
+    mixed = extension(IDENTIFIERS["visa"], b"\x01") + unknown + extension(IDENTIFIERS["travel"], b"\xF3")
+    c.says(f"certificates {mixed} {run} {mixed}", OPENED, "= rights: travel=read,append visa=read")
+    full = "".join(extension(IDENTIFIERS[name], b"\xFF" * n) for name, n in (("biometrics", 17), ("travel", 1), ("visa", 1)))
+    c.says(f"certificates {full} {full} {full}", OPENED, "= rights: all")
+    # refused, the session stays: 7 before 8, the earlier extension first, the first certificate first
+    one, long = run_of(travel), extension(IDENTIFIERS["travel"], b"\x01\x00")
+    for first, second, third, refused in ((long, "-", "-", MALFORMED), ("-", "-", one[:-2], MALFORMED), (one + one, "-", "-", TWICE),
+                                          (one, one + long, "-", MALFORMED), (one, one + one + long, "-", TWICE),
+                                          (one, one + one, long, TWICE), (one, "73", one + one, MALFORMED), (one, "00", one, MALFORMED)):
+        c.says(f"certificates {first} {second} {third}", refused)
+    c.says("rights", "= rights: all")
+    for line in ("certificates", "certificates - -", "certificates - - - -", "certificates zz - -", "certificates 7 - -", "certificates - -- -",
+                 "certificate - - -"):
+        c.cannot(line)
+    for none in (f"- {full} {full}", f"{unknown} {full} {full}", "- - -"):
+        c.says("certificates " + none, OPENED, "= rights: none")
+    c.command("00A4040C07A0000002472001", "6982")
 
 
 def rights(c):
@@ -310,12 +365,6 @@ REASONS = {
 }
 
 
-def object_of(tag, value):
-    """D1, D2"""
-    size = bytes([len(value)]) if len(value) < 0x80 else bytes([0x81, len(value)])
-    return tag.to_bytes(2 if tag > 0xFF else 1, "big") + size + value
-
-
 def stamp_of(values):
     """TR5: the bytes of fields; one that is None is left out."""
     objects = [b"" if v is None else object_of(tag, v) for (_, tag), v in zip(FIELDS, values)]
@@ -402,6 +451,7 @@ def cases():
     c = Cases()
     worked(c)
     unreadable(c)
+    extensions(c)
     rights(c)
     c.says("help", *HELP)
     long_input(c)

@@ -152,6 +152,17 @@ def test_certificates(folder):
     assert all(read(folder, name) == content for name, content in cases.FILES.items())
 
 
+def test_extensions(folder):
+    """Extensions that are refused end with status 1, and the session stays; a line that is no line of certificates cannot be read."""
+    run_ = cases.run_of([("travel", ["read"])])
+    opened = cases.OPENED + "\n= rights: travel=read\n"
+    line = f"certificates {run_} {run_} {run_}\n"
+    assert run(folder, line.encode()) == (0, opened, "")
+    assert run(folder, f"{line}certificates {run_} - 73\nrights".encode()) == (1, opened + "= rights: travel=read\n", cases.MALFORMED + "\n")
+    assert run(folder, f"open none\ncertificates {run_ * 2} - -\nrights".encode()) == (1, cases.OPENED + "\n= rights: none\n", cases.TWICE + "\n")
+    assert run(folder, b"certificates - -") == (1, "", cases.CANNOT + "certificates - -\n")
+
+
 def test_stamps(folder):
     """A record that is no stamp, or is not there, is an answer; the card is only read, and no right is asked for."""
     record = cases.stamp_of(cases.SHORT)
@@ -366,7 +377,7 @@ def main():
     parser.add_argument("--seed", type=int, default=random.randrange(1 << 32))
     options = parser.parse_args()
     print(f"seed {options.seed}")
-    tests = [test_gate_cases, test_status, test_certificates, test_stamps, test_no_card, test_long, test_typed, test_kept, test_cut, test_script]
+    tests = [test_gate_cases, test_status, test_certificates, test_extensions, test_stamps, test_no_card, test_long, test_typed, test_kept, test_cut, test_script]
     for test in tests:
         with tempfile.TemporaryDirectory() as folder:
             test(folder)

@@ -21,6 +21,8 @@ use Rattle.malquindo.proofs.malquindo_index_read.Kinds as malquindo-ind
 use Rattle.malquindo.proofs.malquindo_index_read.Reads as malquindo-index-read-reads
 use Rattle.malquindo.proofs.malquindo_stamp_read.Kinds as malquindo-stamp-read-kinds
 use Rattle.malquindo.proofs.malquindo_stamp_read.Reads as malquindo-stamp-read-reads
+use Rattle.malquindo.proofs.malquindo_rights.Kinds as malquindo-rights-kinds
+use Rattle.malquindo.proofs.malquindo_rights.Reads as malquindo-rights-reads
 
 pub malquindo-session-len-determined : Determined malquindo-session-len-kinds.ps malquindo-session-len-kinds.r malquindo-session-len-reads.Post
 malquindo-session-len-determined κs a e f p q i = ((p ∙ sym q) i, e .1)
@@ -51,3 +53,6 @@ malquindo-index-read-determined κs a e f p q i = ((p ∙ sym q) i, e .1)
 
 pub malquindo-stamp-read-determined : Determined malquindo-stamp-read-kinds.ps malquindo-stamp-read-kinds.r malquindo-stamp-read-reads.Post
 malquindo-stamp-read-determined κs a e f p q i = ((p .0 ∙ sym (q .0)) i, (tt, ((p .1 ∙ sym (q .1)) i, tt)))
+
+pub malquindo-rights-determined : Determined malquindo-rights-kinds.ps malquindo-rights-kinds.r malquindo-rights-reads.Post
+malquindo-rights-determined κs a e f p q i = ((p .0 ∙ sym (q .0)) i, (tt, (tt, (tt, ((p .1 ∙ sym (q .1)) i, tt)))))

@@ -20,6 +20,9 @@ use Rattle.store_image.specs.declared.Found.{Found}
 use Rattle.store_image.specs.declared.Found.the-variants.{At, Missing}
 use Rattle.store_certificates.specs.Certificates.{certificateRefusal, whichBody, certificateStretch}
 use Rattle.store_certificates.specs.declared.Located.{Located}
+use Rattle.objects_extensions.specs.Read.{runNumber}
+use Rattle.objects_extensions.specs.declared.RightsRead.{RightsRead}
+use Rattle.objects_extensions.specs.declared.RightsRead.the-variants.{Told as RightsTold, ShortBuffer}
 use Rattle.objects_stamp.specs.Read.{findingNumber, findingPlace}
 use Rattle.objects_stamp.specs.declared.StampRead.{StampRead}
 use Rattle.objects_stamp.specs.declared.StampRead.the-variants.{Told, ShortList}
@@ -102,3 +105,8 @@ stampResult ShortList = 15 * 4294967296
 -- of an index: refusal · 2^32 + how many places, or how many bytes; either is below 65,536 [X13]
 unfoldable pub indexResult : Indexed → ℕ
 indexResult a = indexRefusal a * 4294967296 + indexCount a
+
+-- of the rights of three certificates: refusal · 2^32, where number 1 is that of a buffer that is too short; 0 where there is none [X15]
+abbrev pub rightsResult : RightsRead → ℕ
+rightsResult (RightsTold r) = runNumber r * 4294967296
+rightsResult ShortBuffer = 4294967296

@@ -4,6 +4,9 @@ use machine_apdu::status::NORMAL;
 use machine_session::Refusal;
 use machine_session::Session;
 use machine_session::Verdict;
+use objects_extensions::ExtensionFault;
+use objects_extensions::RightsRead;
+use objects_extensions::RunRead;
 use objects_stamp::Finding;
 use objects_stamp::Reason;
 use objects_stamp::StampRead;
@@ -18,12 +21,14 @@ ghost use Prim.Native.Nat.{_≤_};
 ghost use Rattle.machine_session.specs.Verdict.{refusalNumber, verdictNumber};
 ghost use lib.ListN.{length};
 ghost use Rattle.store_certificates.specs.Certificates.{located, certificateRefusal, whichBody, certificateStretch};
+ghost use Rattle.objects_extensions.specs.Faults.{extensionFaultNumber};
+ghost use Rattle.objects_extensions.specs.Read.{runNumber, readRights, readRightsInto};
 ghost use Rattle.objects_stamp.specs.Faults.{reasonNumber};
 ghost use Rattle.objects_stamp.specs.Read.{readStamp, readStampInto};
 ghost use Rattle.objects_stamp.specs.declared.StampRead.the-variants.{Told};
 ghost use Rattle.store_index.specs.Index.{build, buildInto, extend, extendInto, measure};
 ghost use Rattle.store_move.specs.Moving.{moveRefusalNumber, moveCard, moveCardInto};
-ghost use Rattle.malquindo.specs.Face.{moveResult, resultOf, openingVerdict, openResult, openSession, sessionAfter, calledAs, called, foundResult, fileResult, certificateResult, indexResult, stampResult};
+ghost use Rattle.malquindo.specs.Face.{moveResult, resultOf, openingVerdict, openResult, openSession, sessionAfter, calledAs, called, foundResult, fileResult, certificateResult, indexResult, stampResult, rightsResult};
 
 fn refusal_number(r: Refusal) -> u64
     ensures { λ n. ⌜ (n ≡ refusalNumber r) × (n ≤ 4) ⌝ }
@@ -315,4 +320,48 @@ pub extern "C" fn malquindo_stamp_read(record: &[u8], places: &mut [u32]) -> u64
 {
     let a = objects_stamp::read_stamp(record, places);
     stamp_result(a)
+}
+
+// The number of an extension's fault.
+fn extension_fault_number(w: ExtensionFault) -> u64
+    ensures { λ n. ⌜ (n ≡ extensionFaultNumber w) × (n ≤ 8) ⌝ }
+{
+    match w {
+        ExtensionFault::Malformed => 7,
+        ExtensionFault::Twice => 8,
+    }
+}
+
+// The same of a run, 0 where it has no fault.
+fn run_number(r: RunRead) -> u64
+    ensures { λ n. ⌜ (n ≡ runNumber r) × (n ≤ 8) ⌝ }
+{
+    match r {
+        RunRead::Whole => 0,
+        RunRead::Faulty(w) => extension_fault_number(w),
+    }
+}
+
+// That number as a refusal, and 1 where the buffer is too short.
+fn rights_result(a: RightsRead) -> u64
+    ensures { λ r. ⌜ r ≡ rightsResult a ⌝ }
+{
+    match a {
+        RightsRead::Told(r) => run_number(r) * 4294967296,
+        RightsRead::ShortBuffer => 4294967296,
+    }
+}
+
+// Reads the rights of three certificates from their extensions: the bytes that an opening takes.
+#[no_mangle]
+pub extern "C" fn malquindo_rights(
+    first: &[u8],
+    second: &[u8],
+    third: &[u8],
+    rights: &mut [u8],
+) -> u64
+    ensures { λ r. ⌜ (r ≡ rightsResult (readRights (now (first .entry)) (now (second .entry)) (now (third .entry)) (now (rights .entry)))) × (now (rights .exit) ≡ readRightsInto (now (first .entry)) (now (second .entry)) (now (third .entry)) (now (rights .entry))) ⌝ }
+{
+    let a = objects_extensions::read_rights(first, second, third, rights);
+    rights_result(a)
 }

@@ -1,5 +1,5 @@
 -- Three runs: what they give, and each run or its fault; then the same as the code goes. Read before: specs/Faults.antt, specs/Read.antt.
--- Exports `Accepted`, `chain-complete`, `chain-fault`, `chain-or-fault`, and `rights-…` for the code.
+-- Exports `chain-complete`, `chain-length`, `chain-fault`, `chain-or-fault`, and `rights-…` for the code.
 use Prim.Native.Nat.{ℕ, _≤_, _<_}
 use mathlib.Core.Path.{_≡_, refl, ap, _∙_}
 use mathlib.Core.Bool.{Bool, true, false, not}
@@ -16,27 +16,24 @@ use Rattle.objects_extensions.specs.declared.RunRead.{RunRead}
 use Rattle.objects_extensions.specs.declared.RunRead.the-variants.{Whole, Faulty}
 use Rattle.objects_extensions.specs.declared.RightsRead.{RightsRead}
 use Rattle.objects_extensions.specs.declared.RightsRead.the-variants.{Told, ShortBuffer}
-use Rattle.objects_extensions.specs.Extensions.{Extension, certificateData, RunOf}
-use Rattle.objects_extensions.specs.Faults.{RunFault, ChainFault, in-first, in-second, in-third}
+use Rattle.objects_extensions.specs.Extensions.{Extension, certificateData, RunsOf}
+use Rattle.objects_extensions.specs.Faults.{ChainFault, in-first, in-second, in-third}
 use Rattle.objects_extensions.specs.Read.{isWhole, RunResult, whole, runOn, blank, chainOf, chainData, readRights, readRightsInto}
-use Rattle.objects_extensions.proofs.Runs.{not-whole, run-complete, run-fault, run-or-fault}
+use Rattle.objects_extensions.proofs.Runs.{not-whole, run-complete, certificate-length, run-fault, run-or-fault}
 use Rattle.objects_extensions.proofs.Steps.{Gave, of-gave}
 
 -- ---- what three runs give
 
-pub record Accepted (f s t : List ℕ) : Type 0 where
-  pub first : List Extension
-  pub second : List Extension
-  pub third : List Extension
-  pub is-first : RunOf first f
-  pub is-second : RunOf second s
-  pub is-third : RunOf third t
-
 module _ (f s t : List ℕ) where
-  pub chain-complete : (a b c : List Extension) → RunOf a f → RunOf b s → RunOf c t
-      → chainOf f s t ≡ whole (certificateData a ++ (certificateData b ++ certificateData c))
+  pub chain-complete : (a b c : List Extension) → RunsOf a b c f s t → chainOf f s t ≡ whole (certificateData a ++ (certificateData b ++ certificateData c))
   unfolding chainOf
-  chain-complete a b c x y z = rw (run-complete a f x, run-complete b s y, run-complete c t z) refl
+  chain-complete a b c x = rw (run-complete a f (x .is-first), run-complete b s (x .is-second), run-complete c t (x .is-third)) refl
+
+  pub chain-length : (a b c : List Extension) → RunsOf a b c f s t → length (certificateData a ++ (certificateData b ++ certificateData c)) ≡ 60
+  chain-length a b c x =
+      let l = length-append (certificateData a) (certificateData b ++ certificateData c) in
+      let m = length-append (certificateData b) (certificateData c) in
+      omega (arith, certificate-length a f (x .is-first), certificate-length b s (x .is-second), certificate-length c t (x .is-third))
 
   module _ (bf : AllBytes f) (bs : AllBytes s) (bt : AllBytes t) where
     pub chain-fault : (w : ExtensionFault) → ChainFault f s t w → (chainOf f s t) .read ≡ Faulty w
@@ -45,12 +42,12 @@ module _ (f s t : List ℕ) where
     chain-fault w (in-second a x y) = let e = run-fault s w bs y in rw (run-complete a f x, e) (simp (not-whole w))
     chain-fault w (in-third a b x y z) = let e = run-fault t w bt z in rw (run-complete a f x, run-complete b s y, e) (simp (not-whole w))
 
-    pub chain-or-fault : Accepted f s t ⊎ ((w : ExtensionFault) × ChainFault f s t w)
+    pub chain-or-fault : ((a : List Extension) × (b : List Extension) × (c : List Extension) × RunsOf a b c f s t) ⊎ ((w : ExtensionFault) × ChainFault f s t w)
     chain-or-fault =
         ⊎-elim
         (λ x. ⊎-elim
         (λ y. ⊎-elim
-        (λ z. inl (record { first = x .0; second = y .0; third = z .0; is-first = x .1; is-second = y .1; is-third = z .1 }))
+        (λ z. inl (x .0, y .0, z .0, record { is-first = x .1; is-second = y .1; is-third = z .1 }))
         (λ z. inr (z .0, in-third (x .0) (y .0) (x .1) (y .1) (z .1)))
         (run-or-fault t bt))
         (λ y. inr (y .0, in-second (x .0) (x .1) (y .1)))

@@ -198,12 +198,16 @@ module _ (es : List Extension) (e : Extension) where
       where
         X : List ℕ
         X = rightsFor Travel es
+
         Y : List ℕ
         Y = rightsFor Visa es
+
         Z : List ℕ
         Z = rightsFor Biometrics es
+
         F : ℕ
         F = flagFor Travel es + flagFor Visa es + flagFor Biometrics es
+
         of : (k : Known) → isFor k e ≡ true → put ((F + flagOf k) ∷ (X ++ (Y ++ Z))) (rightsPlace k) (e .rights) ≡ nextData es e
         of Travel a =
             put-travel F (F + 1) X Y Z (e .rights) (f Travel) (f Visa) (f Biometrics) (z Travel a)
@@ -221,6 +225,7 @@ module _ (es : List Extension) (e : Extension) where
       where
         known : (k : Known) × (isFor k e ≡ true) → keeps (certificateData es) e ≡ whole (certificateData (es ++ (e ∷ [])))
         known x = keeps-known (certificateData es) e (x .0) (x .1) ∙ put-known es e (x .0) (z (x .0) (x .1)) (n (x .0) (x .1)) ∙ ap whole (next-put (x .0) (x .1))
+
         unknown : ((k : Known) → isFor k e ≡ false) → keeps (certificateData es) e ≡ whole (certificateData (es ++ (e ∷ [])))
         unknown u = keeps-unknown (certificateData es) e u ∙ ap whole (same-data es e u ∙ sym next-data)
 

@@ -1,5 +1,6 @@
 -- A run gives the certificate of its extensions, or tells the fault of the first that has one; and each run of bytes is one or the other.
--- Read before: specs/Faults.antt. Exports `run-end`, `not-whole`, `run-complete`, `run-fault`, `run-or-fault`.
+-- Read before: specs/Faults.antt. Exports `run-end`, `not-whole`, `run-complete`,
+-- `certificate-length`, `run-fault`, `run-or-fault`.
 use Prim.Native.Nat.{ℕ, zero, suc, _+_, _≤_, _<_}
 use mathlib.Core.Path.{_≡_, refl, sym, ap, _∙_}
 use mathlib.Core.Bool.{true, false}
@@ -24,10 +25,11 @@ use Rattle.objects_reader.proofs.Heads.{headSize}
 use Rattle.objects_reader.proofs.Unique.{length-tlv, object-head, object-rest}
 use Rattle.objects_reader.proofs.Fitting.{Fitting}
 use Rattle.objects_reader.proofs.Exact.{bytes-drop, bytes-take, all-complete, all-sound}
+use Rattle.objects_extensions.specs.declared.Known.the-variants.{Travel, Visa, Biometrics}
 use Rattle.objects_extensions.specs.declared.ExtensionFault.{ExtensionFault}
 use Rattle.objects_extensions.specs.declared.ExtensionFault.the-variants.{Malformed, Twice}
 use Rattle.objects_extensions.specs.declared.RunRead.the-variants.{Faulty}
-use Rattle.objects_extensions.specs.Extensions.{Extension, extensionValue, extensionData, Sayable, runData, certificateData, RightSize, FirstTime, InOrder, RunOf}
+use Rattle.objects_extensions.specs.Extensions.{Extension, extensionValue, extensionData, Sayable, runData, rightsFor, certificateData, RightSize, FirstTime, InOrder, RunOf}
 use Rattle.objects_extensions.specs.Faults.{FaultOf, NoExtension, FaultBehind, at-extension, at-bytes, RunFault}
 use Rattle.objects_extensions.specs.Read.{isWhole, RunResult, whole, faulty, onWhole, keeps, extensionForm, extensionOn, onFront, runIn, runOn, blank}
 use Rattle.objects_extensions.proofs.Kept.{Filled, filled-none, filled-next, none-given, keep-in-order, keep-fault, order-or-fault}
@@ -210,6 +212,20 @@ run-complete es s w =
     let l = ap length q in
     let r = skip (length s) [] es [] filled-none (w .in-order) (omega arith) in
     ap (runIn (length s) blank) q ∙ rw (← none-given) (r .same) ∙ run-end (r .fuel) (certificateData es)
+
+-- and that has 20 bytes
+filled-all : (p es : List Extension) → Filled p → InOrder p es → Filled (p ++ es)
+unfolding InOrder
+filled-all p [] f o = rw append-nil f
+filled-all p (e ∷ es) f o = rw append-assoc at (filled-all (p ++ (e ∷ [])) es (filled-next p e f (o .1) (o .2)) (o .3))
+
+pub certificate-length : (es : List Extension) (s : List ℕ) → RunOf es s → length (certificateData es) ≡ 20
+unfolding certificateData
+certificate-length es s w =
+    let f = filled-all [] es filled-none (w .in-order) in
+    let l = length-append (rightsFor Visa es) (rightsFor Biometrics es) in
+    let m = length-append (rightsFor Travel es) (rightsFor Visa es ++ rightsFor Biometrics es) in
+    omega (arith, f Travel, f Visa, f Biometrics)
 
 -- ---- a fault
 

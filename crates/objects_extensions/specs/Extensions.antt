@@ -98,3 +98,9 @@ InOrder before (e ∷ es) = Sayable e × RightSize e × FirstTime before e × In
 pub record RunOf (es : List Extension) (s : List ℕ) : Type 0 where
   pub in-order : InOrder [] es
   pub written : s ≡ runData es
+
+-- three runs of extensions in order [CE7]
+pub record RunsOf (a b c : List Extension) (first second third : List ℕ) : Type 0 where
+  pub is-first : RunOf a first
+  pub is-second : RunOf b second
+  pub is-third : RunOf c third

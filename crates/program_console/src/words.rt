@@ -39,6 +39,10 @@ fn reason(number: u64) {
         2 => warn(b"! refused (2): the card image is not well formed"),
         3 => warn(b"! refused (3): rights are 60 bytes, three certificates of 20"),
         4 => warn(b"! refused (4): the session does not fit the card"),
+        7 => warn(
+            b"! refused (7): an extension is not well formed, or its rights have another size",
+        ),
+        8 => warn(b"! refused (8): a certificate has a known extension twice"),
         9 => warn(
             b"! refused (9): the card or the copy has no well-formed body of travel certificates",
         ),

@@ -25,6 +25,12 @@ pub(crate) fn all() {
     program_console::word(
         b"  open FFFF ... FF            opens a session with three certificates, 60 bytes in hexadecimal\n",
     );
+    program_console::word(
+        b"  certificates RUN RUN RUN    opens a session with the rights in the extensions of three certificates, and says which these are\n",
+    );
+    program_console::word(
+        b"                              (a run is hexadecimal without spaces, `-` without extensions)\n",
+    );
     program_console::word(b"  rights                      says what the session may do\n");
     program_console::word(
         b"  session                     says the session's application, file and record\n",

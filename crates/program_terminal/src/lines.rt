@@ -1,5 +1,6 @@
 // One line of the input and its answer. Each function here that answers a line says how it ended (status.rt).
 use crate::certificates;
+use crate::extensions;
 use crate::help;
 use crate::hex;
 use crate::keep;
@@ -153,6 +154,9 @@ fn line(s: &[u8], image: &mut [u8], kept: &mut [u8], session: &mut [u8], how: Ho
     let rest = base::part(s, word.len(), s.len());
     if text::is(word, b"move") {
         return ended(s, moves::line(rest, image));
+    }
+    if text::is(word, b"certificates") {
+        return ended(s, extensions::line(rest, session));
     }
     if text::is(word, b"certificate") {
         return ended(s, certificates::line(rest, image));

@@ -3,6 +3,7 @@
 // change before its command is answered; without it the card is the card to try.
 mod card;
 mod certificates;
+mod extensions;
 mod files;
 mod help;
 mod hex;

@@ -19,4 +19,5 @@ pub mod Bodies
 pub mod Certificates
 pub mod Index
 pub mod Stamps
+pub mod Rights
 pub mod Promises

@@ -1,5 +1,5 @@
 -- An opening answers nothing, and is refused for anything but 60 bytes. Read ../specs/Promises.antt, section 1, before. Exports
--- `opening-opened`.
+-- `zeros`, `opening-opened`.
 use mathlib.Core.Path.{_≡_, refl, sym, ap, _∙_}
 use mathlib.Core.Bool.{Bool}
 use mathlib.Core.List.{[], _∷_, List·Memᴰ, List·Memᴰ·head, List·Memᴰ·tail}
@@ -21,7 +21,7 @@ use Rattle.machine.specs.Step.{opening}
 use Rattle.promises.specs.Promises.{Opens}
 
 -- 60 zero bytes open with no rights
-zeros : effective (replicate 60 0) ≡ noRights
+pub zeros : effective (replicate 60 0) ≡ noRights
 unfolding effective noRights certificate joined joinedBytes cleared clearedBytes bit
 zeros = refl
 

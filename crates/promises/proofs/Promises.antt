@@ -1,5 +1,5 @@
 -- The theorems: each proves the promise of its name in ../specs/Promises.antt, Done.antt, Linked.antt, Bodies.antt,
--- Certificates.antt, Index.antt or Stamps.antt.
+-- Certificates.antt, Index.antt, Stamps.antt or Rights.antt.
 use Rattle.promises.specs.Promises.{Says-no, Gets-word, Opens, Holds, Number-kept, Reads-history, Leaves-none-out, Only-searches, Search-refused, Both-spellings, Stays-accepted, Answer-fits, Opening-fits, Session-bytes, Opening-bytes, Result-whole, Move-says-no, Move-done, Same-sizes, Move-twice, Move-whole}
 use Rattle.promises.specs.Done.{Append-done, Update-done, Activate-done, Read-done, Select-done, Fmm-done}
 use Rattle.promises.specs.Linked.{C-sees, C-malformed, C-says-no, C-gets-word, C-holds, C-number-kept, C-reads-history, C-leaves-none-out, C-opens, C-moves}
@@ -7,6 +7,7 @@ use Rattle.promises.specs.Bodies.{C-file, C-file-stays}
 use Rattle.promises.specs.Certificates.{C-certificate, C-certificate-kept}
 use Rattle.promises.specs.Index.{C-index-builds, C-index-extends, C-index-reads, C-index-kept, C-index-room, C-index-replies}
 use Rattle.promises.specs.Stamps.{C-stamp-reads, C-stamp-unique, C-stamp-longest}
+use Rattle.promises.specs.Rights.{C-rights, C-rights-refused}
 use Rattle.promises.proofs.Keeping.{step-kept}
 use Rattle.promises.proofs.Opening.{opening-opened}
 use Rattle.store_move.proofs.Moves.{moveCard-numbered}
@@ -26,6 +27,7 @@ use Rattle.promises.proofs.Bodies as bodies
 use Rattle.promises.proofs.Certificates as certificates
 use Rattle.promises.proofs.Index as index
 use Rattle.promises.proofs.Stamps as stamps
+use Rattle.promises.proofs.Rights as rights
 
 pub says-no : Says-no
 says-no = step-kept
@@ -176,3 +178,9 @@ c-stamp-unique = stamps.c-stamp-unique
 
 pub c-stamp-longest : C-stamp-longest
 c-stamp-longest = stamps.c-stamp-longest
+
+pub c-rights : C-rights
+c-rights = rights.c-rights
+
+pub c-rights-refused : C-rights-refused
+c-rights-refused = rights.c-rights-refused

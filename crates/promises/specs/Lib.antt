@@ -10,3 +10,4 @@ pub mod Bodies
 pub mod Certificates
 pub mod Index
 pub mod Stamps
+pub mod Rights

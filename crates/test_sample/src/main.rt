@@ -20,6 +20,8 @@
 //    record that the store's function returns (`-` where that has no byte).
 // 9, a stamp: how many entries the list has (2 bytes, little-endian), the length of the record (4 bytes, little-endian), its bytes. The list is
 //    filled with A5A5A5A5. The line: the result, a hash of the list.
+// 10, rights of certificates: the length of the buffer (2 bytes, little-endian), then of each of three runs the length (4 bytes,
+//    little-endian) and its bytes. The buffer is filled with A5. The line: the result, the buffer's bytes.
 use program_console::result;
 use store_records::little::read16;
 use store_records::little::read32;
@@ -407,6 +409,52 @@ fn stamp(s: &[u8], image: usize, session: usize) -> Turn {
     }
 }
 
+// The line of the rights of three runs.
+fn tell_rights(first: &[u8], second: &[u8], third: &[u8], rights: &mut [u8]) {
+    program_console::number(malquindo::malquindo_rights(first, second, third, rights));
+    program_console::bytes(rights);
+    program_console::end();
+}
+
+// A run, with its length before it, where s has all of it.
+fn run_at(s: &[u8]) -> &[u8] {
+    base::part(s, 4, read32(s, 0))
+}
+
+// What stands behind it.
+fn behind_run(s: &[u8]) -> &[u8] {
+    base::part(s, 4 + read32(s, 0), s.len())
+}
+
+// The rights of certificates.
+fn rights(s: &[u8], image: usize, session: usize) -> Turn {
+    let n = read16(s, 0);
+    let first = base::part(s, 2, s.len());
+    let second = behind_run(first);
+    let third = behind_run(second);
+    let mut buffer = filled();
+    if third.len() < 4 {
+        return torn(s);
+    }
+    if third.len() - 4 < read32(third, 0) {
+        return torn(s);
+    }
+    if buffer.len() < n {
+        return torn(s);
+    }
+    tell_rights(
+        run_at(first),
+        run_at(second),
+        run_at(third),
+        &mut buffer[..n],
+    );
+    Turn {
+        left: behind_run(third).len(),
+        image,
+        session,
+    }
+}
+
 // Answers the case that s starts with.
 fn case(s: &[u8], card: &mut [u8], i: usize, kept: &mut [u8], n: usize) -> Turn {
     let rest = base::part(s, 1, s.len());
@@ -420,6 +468,7 @@ fn case(s: &[u8], card: &mut [u8], i: usize, kept: &mut [u8], n: usize) -> Turn 
         7 => certificates(rest, i, n),
         8 => index(rest, i, n),
         9 => stamp(rest, i, n),
+        10 => rights(rest, i, n),
         _ => torn(s),
     }
 }

@@ -1,6 +1,7 @@
 //! The calls to time: card, session and command; card and rooms; bodies of certificates; a body
-//! with an index; stamps.
+//! with an index; stamps; runs of extensions.
 
+use compare::extension::{self, Extension, Runs};
 use compare::make::{self, Apdu, LONGEST_IMAGE, RULES};
 use compare::random::Random;
 use compare::stamp::{self, Draft};
@@ -373,6 +374,44 @@ pub fn stamps() -> [Stamp; 3] {
             "the longest stamp, reference 00",
             wrong,
             3 << 32 | last,
+        ),
+    ]
+}
+
+/// Three runs of extensions to read rights from.
+pub struct Rights {
+    pub name: String,
+    pub held: String,
+    pub runs: Runs,
+    /// What reading them gives.
+    pub result: u64,
+}
+
+/// The three known extensions in each run; the same behind a long unknown one; and a fault in the
+/// last extension of all.
+pub fn rights() -> [Rights; 3] {
+    let known: Vec<Extension> = (0..3).map(|which| Extension::known(which, 0x0F)).collect();
+    let unknown = vec![Extension::unknown(&[0x2A; 8], 1_000)];
+    let three = |run: &[Extension]| [0; 3].map(|_| extension::run(run));
+    // One byte less, at the end of the third run.
+    let mut wrong = three(&known);
+    wrong[2].pop();
+    let case = |name: &str, held: &str, runs, result| Rights {
+        name: name.to_string(),
+        held: held.to_string(),
+        runs,
+        result,
+    };
+    let held = "travel, visa and biometrics in each of three runs of 61 bytes";
+    let behind = "the same, behind an unknown extension with rights of 1,000 bytes";
+    [
+        case("rights", held, three(&known), 0),
+        case("rights", behind, three(&[unknown, known].concat()), 0),
+        case(
+            "rights, a fault in the last extension",
+            "the runs of 61 bytes, the last one cut short",
+            wrong,
+            7 << 32,
         ),
     ]
 }

@@ -20,6 +20,7 @@ fn main() {
     certificate_times();
     index_times();
     stamp_times();
+    rights_times();
     stack_use();
 }
 
@@ -219,6 +220,16 @@ fn stamp_times() {
     }
 }
 
+/// The known extensions of three certificates, alone and behind unknown ones, and one with a fault.
+fn rights_times() {
+    println!("\n| row | what the buffers held | proved (µs) | reference (µs) | ratio |");
+    println!("|---|---|---|---|---|");
+    for case in cases::rights() {
+        let times = time::measure_rights(&case);
+        print_times(&case.name, &case.held, times);
+    }
+}
+
 fn stack_use() {
     stack_head("malquindo_command");
     for case in [
@@ -241,6 +252,9 @@ fn stack_use() {
     stack_head("malquindo_stamp_read");
     let [longest, ..] = cases::stamps();
     stack_row(&longest.name, &longest.held, stack::of_stamp(&longest));
+    stack_head("malquindo_rights");
+    let [known, ..] = cases::rights();
+    stack_row(&known.name, &known.held, stack::of_rights(&known));
 }
 
 fn stack_head(function: &str) {

@@ -1,7 +1,8 @@
 //! The stack one call uses, measured: the call runs on a painted stack of its own, and the lowest
 //! byte that lost its paint tells how deep it went.
 
-use crate::cases::{Case, Move, Stamp};
+use crate::cases::{Case, Move, Rights, Stamp};
+use compare::make::RIGHTS_LEN;
 use compare::stamp::NUMBERS;
 use std::arch::asm;
 
@@ -13,6 +14,16 @@ type Command =
     unsafe extern "C" fn(*mut u8, usize, *mut u8, usize, *const u8, usize, *mut u8, usize) -> u64;
 type MoveCard = unsafe extern "C" fn(*const u8, usize, *const u8, usize, *mut u8, usize) -> u64;
 type ReadStamp = unsafe extern "C" fn(*const u8, usize, *mut u32, usize) -> u64;
+type ReadRights = unsafe extern "C" fn(
+    *const u8,
+    usize,
+    *const u8,
+    usize,
+    *const u8,
+    usize,
+    *mut u8,
+    usize,
+) -> u64;
 /// Makes the call that it is given.
 type Trampoline<C> = unsafe extern "C" fn(*mut C);
 
@@ -39,6 +50,14 @@ struct StampCall<'a> {
     function: ReadStamp,
     case: &'a Stamp,
     places: [u32; NUMBERS],
+    result: u64,
+}
+
+/// What the trampoline of reading rights hands on.
+struct RightsCall<'a> {
+    function: ReadRights,
+    case: &'a Rights,
+    rights: [u8; RIGHTS_LEN],
     result: u64,
 }
 
@@ -109,6 +128,27 @@ fn stamp_depth(case: &Stamp, function: ReadStamp, result: u64) -> usize {
     deepest.max().unwrap_or(0)
 }
 
+/// The same of reading rights.
+pub fn of_rights(case: &Rights) -> usize {
+    let used = rights_depth(case, malquindo_sys::malquindo_rights, case.result);
+    used - rights_depth(case, no_rights, 0)
+}
+
+fn rights_depth(case: &Rights, function: ReadRights, result: u64) -> usize {
+    let deepest = PAINTS.iter().map(|paint| {
+        let mut call = RightsCall {
+            function,
+            case,
+            rights: [0; RIGHTS_LEN],
+            result: 0,
+        };
+        let depth = painted_depth(*paint, rights_trampoline, &mut call);
+        assert_eq!(call.result, result, "{}", case.name);
+        depth
+    });
+    deepest.max().unwrap_or(0)
+}
+
 /// Takes what `malquindo_command` takes and does nothing.
 unsafe extern "C" fn nothing(
     _: *mut u8,
@@ -137,6 +177,20 @@ unsafe extern "C" fn no_move(
 
 /// Takes what `malquindo_stamp_read` takes and does nothing.
 unsafe extern "C" fn no_stamp(_: *const u8, _: usize, _: *mut u32, _: usize) -> u64 {
+    0
+}
+
+/// Takes what `malquindo_rights` takes and does nothing.
+unsafe extern "C" fn no_rights(
+    _: *const u8,
+    _: usize,
+    _: *const u8,
+    _: usize,
+    _: *const u8,
+    _: usize,
+    _: *mut u8,
+    _: usize,
+) -> u64 {
     0
 }
 
@@ -196,6 +250,29 @@ unsafe extern "C" fn stamp_trampoline(call: *mut StampCall<'_>) {
             call.case.record.len(),
             call.places.as_mut_ptr(),
             call.places.len(),
+        )
+    };
+}
+
+/// Calls the function with the runs and a buffer for their rights.
+///
+/// # Safety
+/// `call` points to a call that nothing else uses meanwhile.
+unsafe extern "C" fn rights_trampoline(call: *mut RightsCall<'_>) {
+    // SAFETY: the caller says so.
+    let call = unsafe { &mut *call };
+    let [first, second, third] = &call.case.runs;
+    // SAFETY: pointers and lengths are those of three runs and a buffer that do not overlap.
+    call.result = unsafe {
+        (call.function)(
+            first.as_ptr(),
+            first.len(),
+            second.as_ptr(),
+            second.len(),
+            third.as_ptr(),
+            third.len(),
+            call.rights.as_mut_ptr(),
+            call.rights.len(),
         )
     };
 }

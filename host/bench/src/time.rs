@@ -1,6 +1,7 @@
 //! Timing one call of each implementation, in turns.
 
-use crate::cases::{Case, Certificate, Indexed, Move, Stamp, LONGEST_RECORD, MOST_RECORDS};
+use crate::cases::{Case, Certificate, Indexed, Move, Rights, Stamp, LONGEST_RECORD, MOST_RECORDS};
+use compare::make::RIGHTS_LEN;
 use compare::sides::{IndexBuild, Machine, PROVED, REFERENCE};
 use compare::stamp::NUMBERS;
 use malquindo::Index;
@@ -84,6 +85,14 @@ pub fn measure_certificate(case: &Certificate) -> Times {
 pub fn measure_stamp(case: &Stamp) -> Times {
     let mut proved = Bench::new(ReadStamp::new(case, &PROVED), false);
     let mut reference = Bench::new(ReadStamp::new(case, &REFERENCE), false);
+    let [proved, reference] = in_turns([&mut proved, &mut reference], BUDGET);
+    Times { proved, reference }
+}
+
+/// Both implementations on the same runs of extensions, alternating.
+pub fn measure_rights(case: &Rights) -> Times {
+    let mut proved = Bench::new(ReadRights::new(case, &PROVED), false);
+    let mut reference = Bench::new(ReadRights::new(case, &REFERENCE), false);
     let [proved, reference] = in_turns([&mut proved, &mut reference], BUDGET);
     Times { proved, reference }
 }
@@ -265,6 +274,34 @@ impl Work for ReadStamp<'_> {
 
     fn call(&mut self) -> u64 {
         (self.machine.stamp_read)(black_box(&self.case.record), &mut self.places)
+    }
+}
+
+/// One implementation's reading of rights, into a buffer that is there.
+struct ReadRights<'a> {
+    case: &'a Rights,
+    machine: &'a Machine,
+    rights: [u8; RIGHTS_LEN],
+}
+
+impl<'a> ReadRights<'a> {
+    fn new(case: &'a Rights, machine: &'a Machine) -> Self {
+        let mut work = Self {
+            case,
+            machine,
+            rights: [0; RIGHTS_LEN],
+        };
+        assert_eq!(work.call(), case.result, "{}", case.name);
+        work
+    }
+}
+
+impl Work for ReadRights<'_> {
+    fn reset(&mut self) {}
+
+    fn call(&mut self) -> u64 {
+        let [first, second, third] = black_box(&self.case.runs);
+        (self.machine.rights)(first, second, third, &mut self.rights)
     }
 }
 

@@ -3,18 +3,22 @@
 //! Each module uses only those above it in this list:
 //! - [`random`]: the generator of numbers; [`hex`]: bytes as text, and a hash of them;
 //! - [`make`]: the bytes of images, data objects and commands; [`stamp`]: those of stamps;
+//!   [`extension`]: those of certificate extensions;
 //! - [`view`]: what an image and a session hold;
 //! - [`step`]: one step of a run, and what a side holds between two steps;
 //! - [`card`], [`rights`], [`objects`], [`command`], [`moving`], [`bodies`], [`certificates`],
 //!   [`index`]: made-up images, rights and sessions, data objects, commands, moves, bodies of record
 //!   files, certificates to find, and calls of an index;
 //! - [`stamp_faults`], [`stamps`]: what may be wrong with a stamp, and made-up stamps to read;
+//! - [`extension_faults`], [`extensions`]: the same of extensions to read rights from;
 //! - [`follow`]: an index that is kept beside a card;
-//! - [`index_scene`], [`stamp_scene`], [`scene`]: the calls that every run begins with;
+//! - [`index_scene`], [`stamp_scene`], [`extension_scene`], [`scene`]: the calls that every run
+//!   begins with;
 //! - [`sequence`]: the calls, in sequences on one card each;
 //! - [`talk`]: commands for one card, each with the library's answer;
-//! - [`sort`], [`index_tally`], [`stamp_sort`], [`stamp_tally`], [`tally`]: what sort of call of an
-//!   index it is, and of read of a stamp; how often each sort and each outcome occurred;
+//! - [`sort`], [`index_tally`], [`stamp_sort`], [`stamp_tally`], [`extension_sort`],
+//!   [`extension_tally`], [`tally`]: what sort of call of an index it is, of read of a stamp and of
+//!   rights; how often each sort and each outcome occurred;
 //! - [`sides`]: both implementations, side by side;
 //! - [`sample`]: a sample of calls as data.
 
@@ -24,6 +28,12 @@ pub mod bodies;
 pub mod card;
 pub mod certificates;
 pub mod command;
+pub mod extension;
+pub mod extension_faults;
+pub mod extension_scene;
+pub mod extension_sort;
+pub mod extension_tally;
+pub mod extensions;
 pub mod follow;
 pub mod hex;
 pub mod index;

@@ -43,6 +43,8 @@ pub const LONGEST_IMAGE: usize = 262_144;
 pub const LARGEST_ROOM: usize = 32_768;
 pub const SECTION_HEADER: usize = 6;
 pub const SESSION_LEN: usize = 25;
+/// The rights of one certificate, and of the three of a chain.
+pub const CERTIFICATE_LEN: usize = 20;
 pub const RIGHTS_LEN: usize = 60;
 pub const SHORTEST_RESPONSE: usize = 2_050;
 
@@ -93,14 +95,16 @@ pub fn biometrics(state: u8, written: usize, room: &[u8]) -> Vec<u8> {
 
 /// A data object with the length form that the rules ask for.
 pub fn object(tag: &[u8], value: &[u8]) -> Vec<u8> {
-    let mut bytes = tag.to_vec();
-    match value.len() {
-        n @ 0..=0x7F => bytes.push(n as u8),
-        n @ 0x80..=0xFF => bytes.extend([0x81, n as u8]),
-        n => bytes.extend([0x82, (n >> 8) as u8, n as u8]),
+    [tag, &length(value.len()), value].concat()
+}
+
+/// The bytes of an object's length in the form that the rules ask for, which is the shortest.
+pub fn length(n: usize) -> Vec<u8> {
+    match n {
+        0..=0x7F => vec![n as u8],
+        0x80..=0xFF => vec![0x81, n as u8],
+        _ => vec![0x82, (n >> 8) as u8, n as u8],
     }
-    bytes.extend(value);
-    bytes
 }
 
 /// The data field of a SEARCH RECORD, its objects made by a function like [`object`].

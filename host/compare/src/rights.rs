@@ -1,10 +1,8 @@
 //! Made-up rights and sessions.
 
-use crate::make::{self, RULES, SESSION_LEN};
+use crate::make::{self, CERTIFICATE_LEN, RULES, SESSION_LEN};
 use crate::random::Random;
 use crate::view::View;
-
-const CERTIFICATE_LEN: usize = 20;
 
 /// The rights of a chain, as opening takes them; mostly all of them.
 pub fn chain(random: &mut Random) -> Vec<u8> {

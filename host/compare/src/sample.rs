@@ -2,6 +2,8 @@
 //! print. The answers are the reference's alone.
 
 use crate::card::Size;
+use crate::extension::Runs;
+use crate::extension_scene;
 use crate::hex::{fnv, fnv_of_places, hex};
 use crate::sequence::Sequence;
 use crate::stamp_scene;
@@ -12,7 +14,7 @@ use std::ops::RangeInclusive;
 /// The seed of the sample that is kept as data.
 pub const SEED: u64 = 93_053;
 /// The most bytes the sample may have.
-pub const LONGEST: usize = 410_000;
+pub const LONGEST: usize = 556_000;
 /// What the response buffer holds before each command, and the target before each move.
 const FILL: u8 = 0xA5;
 
@@ -80,6 +82,7 @@ fn one_sequence(seed: u64, number: u64) -> (Vec<u8>, Vec<Lines>) {
             } => find_certificates(&mut state, card, desk, *first..=*last),
             Step::Index { call, places, body } => index(&mut state, *call, places, body),
             Step::Stamp { record, entries } => read_stamp(&mut state, record, *entries),
+            Step::Rights { runs, room } => read_rights(&mut state, runs, *room),
         };
         let results = state.results(&step).to_vec();
         lines.push((text, step, results));
@@ -175,14 +178,21 @@ fn read_stamp(state: &mut State, record: &[u8], entries: usize) -> String {
     format!("{result} {}\n", fnv_of_places(&state.places))
 }
 
+/// Reads rights and says what the buffer is then.
+fn read_rights(state: &mut State, [first, second, third]: &Runs, room: usize) -> String {
+    state.rights = vec![extension_scene::FILL; room];
+    let result = reference::rights(first, second, third, &mut state.rights);
+    state.answers = vec![result];
+    format!("{result} {}\n", hex(&state.rights))
+}
+
 /// A case: 1 image, 2 session, 3 open, 4 command, 5 move, 6 file, 7 certificates, 8 an index,
-/// 9 a stamp; numbers are little-endian.
+/// 9 a stamp, 10 rights; numbers are little-endian.
 fn encode(step: &Step, bytes: &mut Vec<u8>) {
     match step {
         Step::Image(image) => {
             bytes.push(1);
-            bytes.extend((image.len() as u32).to_le_bytes());
-            bytes.extend(image);
+            put(image, bytes);
         }
         Step::Session(session) => {
             bytes.push(2);
@@ -222,8 +232,7 @@ fn encode(step: &Step, bytes: &mut Vec<u8>) {
         } => {
             bytes.extend([7, *first, *last]);
             for body in [card, desk] {
-                bytes.extend((body.len() as u32).to_le_bytes());
-                bytes.extend(body);
+                put(body, bytes);
             }
         }
         Step::Index { call, places, body } => {
@@ -238,14 +247,25 @@ fn encode(step: &Step, bytes: &mut Vec<u8>) {
             bytes.extend((last as u64).to_le_bytes());
             bytes.extend((places.len() as u16).to_le_bytes());
             bytes.extend(places.iter().flat_map(|place| place.to_le_bytes()));
-            bytes.extend((body.len() as u32).to_le_bytes());
-            bytes.extend(body);
+            put(body, bytes);
         }
         Step::Stamp { record, entries } => {
             bytes.push(9);
             bytes.extend((*entries as u16).to_le_bytes());
-            bytes.extend((record.len() as u32).to_le_bytes());
-            bytes.extend(record);
+            put(record, bytes);
+        }
+        Step::Rights { runs, room } => {
+            bytes.push(10);
+            bytes.extend((*room as u16).to_le_bytes());
+            for run in runs {
+                put(run, bytes);
+            }
         }
     }
+}
+
+/// The length of a part in four bytes, and its bytes.
+fn put(part: &[u8], bytes: &mut Vec<u8>) {
+    bytes.extend((part.len() as u32).to_le_bytes());
+    bytes.extend(part);
 }

@@ -1,8 +1,9 @@
 //! The calls that every run begins with: a card with the travel application, moved to larger
 //! rooms and on to others, with commands before and behind each move, and each refusal of a move;
 //! then files to find, and certificates to find in bodies of each sort; then an index, beside a
-//! card and alone; then stamps.
+//! card and alone; then stamps; then rights, for a card and alone.
 
+use crate::extension_scene::{self, torn_chain, travel_chain};
 use crate::hex::hex;
 use crate::index_scene::{self, built, extended, not_extended, read};
 use crate::make::{self, Apdu, LONGEST_IMAGE, RIGHTS_LEN, SESSION_LEN, SHORTEST_RESPONSE};
@@ -13,8 +14,8 @@ use std::ops::RangeInclusive;
 /// A step and what comes of it: a command's answer in hexadecimal; `refusal` and its number, or
 /// how many bytes the new image has; how many bytes a file has and where, or `none`; of each
 /// certificate the body that has it, its place there and its bytes, or `missing`, or `refusal 9`,
-/// with a comma between them; of an index what [`index_scene`] says, and of a stamp what
-/// [`stamp_scene`] says; nothing for what is no call, and for the opening.
+/// with a comma between them; of an index what [`index_scene`] says, of a stamp what
+/// [`stamp_scene`] says, and of rights what [`extension_scene`] says; nothing for what is no call, and for the opening.
 pub type Line = (Step, String);
 
 const ENTRY: u16 = 0x0101;
@@ -50,6 +51,8 @@ pub fn lines() -> Vec<Line> {
         an_index_beside_a_card(),
         index_scene::lines(),
         stamp_scene::lines(),
+        rights_for_a_card(),
+        extension_scene::lines(),
     ]
     .concat()
 }
@@ -109,8 +112,12 @@ fn refused_bodies(card: &[u8], desk: &[u8], references: RangeInclusive<u8>) -> L
 }
 
 fn select(application: u8) -> Line {
+    select_with(application, "9000")
+}
+
+fn select_with(application: u8, answer: &str) -> Line {
     let command = Apdu::new(0x00, 0xA4, 0x04, 0x0C).data(make::aid(application).to_vec());
-    run(&command, "9000")
+    run(&command, answer)
 }
 
 fn append(short_id: u8, record: &[u8], answer: &str) -> Line {
@@ -155,6 +162,29 @@ fn a_card_with_two_records() -> Vec<Line> {
         append(1, &USA, "9000"),
         append(1, &FRA, "9000"),
         append(1, &LONG, "6a84"),
+    ]
+}
+
+/// Rights that are read and then opened with: those of three certificates select the application;
+/// where one has no extension, or a certificate is refused, nobody may.
+fn rights_for_a_card() -> Vec<Line> {
+    let image = [ENTRY, EXIT, TRAVEL_CERTIFICATES].map(|kind| make::section(kind, &[0; 40]));
+    let all = [1, 0x0F].into_iter().chain([0; 18]).collect::<Vec<u8>>();
+    let one_without = [&all[..], &[0; 20], &all].concat();
+    let opened = |rights: Vec<u8>| (Step::Open(rights), String::new());
+    vec![
+        card(image.concat()),
+        (Step::Session(vec![0; SESSION_LEN]), String::new()),
+        travel_chain(false),
+        opened(all.repeat(3)),
+        select(1),
+        append(1, &USA, "9000"),
+        travel_chain(true),
+        opened(one_without),
+        select_with(1, "6982"),
+        torn_chain(),
+        opened(vec![0; RIGHTS_LEN]),
+        select_with(1, "6982"),
     ]
 }
 

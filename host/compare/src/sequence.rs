@@ -4,9 +4,11 @@
 use crate::card::{self, Size};
 use crate::certificates;
 use crate::command;
+use crate::extension_scene;
+use crate::extensions;
 use crate::follow::Follow;
 use crate::index;
-use crate::make::{SESSION_LEN, SHORTEST_RESPONSE};
+use crate::make::{RIGHTS_LEN, SESSION_LEN, SHORTEST_RESPONSE};
 use crate::moving;
 use crate::random::Random;
 use crate::rights;
@@ -33,12 +35,18 @@ pub struct Sequence {
     follow: Option<Follow>,
     /// How many stamps are left, in a sequence that does nothing else.
     stamps_left: usize,
+    /// How many readings of rights are left, in a sequence that does nothing else.
+    rights_left: usize,
+    /// Whether a session is opened next, with the rights that were read.
+    opens: bool,
 }
 
 /// One sequence in so many keeps an index beside its card.
 const FOLLOWS: u64 = 10;
 /// How many stamps a sequence of stamps reads.
 const STAMPS: usize = 40;
+/// How often a sequence of rights reads some.
+const RIGHTS: usize = 40;
 
 impl Sequence {
     /// The sequence of this number in the run of this seed; each seed's first is the scene.
@@ -61,6 +69,22 @@ impl Sequence {
             }
             _ => Self {
                 stamps_left: STAMPS,
+                ..Self::of_steps(random, Size::Any, vec![])
+            },
+        }
+    }
+
+    /// The same of a run of rights alone.
+    pub fn of_rights(seed: u64, number: u64) -> Self {
+        let random = Random::part(seed, number);
+        match number {
+            0 => {
+                let lines = [extension_scene::lines(), extension_scene::more_lines()].concat();
+                let steps = lines.into_iter().map(|(step, _)| step);
+                Self::of_steps(random, Size::Any, steps.collect())
+            }
+            _ => Self {
+                rights_left: RIGHTS,
                 ..Self::of_steps(random, Size::Any, vec![])
             },
         }
@@ -92,6 +116,8 @@ impl Sequence {
             moved: false,
             follow: None,
             stamps_left: 0,
+            rights_left: 0,
+            opens: false,
         }
     }
 
@@ -103,17 +129,19 @@ impl Sequence {
             _ => SESSION_LEN,
         };
         let session = random.bytes(session_len);
-        let rights = rights::chain(&mut random);
+        // The session is opened with made-up rights, or with those of made-up certificates.
+        let opens = random.one_in(5);
+        let rights = match opens {
+            true => extensions::chain(&mut random, size),
+            false => Step::Open(rights::chain(&mut random)),
+        };
         let damages_left = match size {
             Size::Small => random.below(3),
             Size::Any => random.below(6),
         };
-        let steps = vec![
-            Step::Image(image),
-            Step::Session(session),
-            Step::Open(rights),
-        ];
+        let steps = vec![Step::Image(image), Step::Session(session), rights];
         Self {
+            opens,
             commands_left: random.between(36, 44),
             damages_left,
             ..Self::of_steps(random, size, steps)
@@ -128,6 +156,12 @@ impl Sequence {
             } else if self.stamps_left > 0 {
                 self.stamps_left -= 1;
                 self.plan_stamp();
+            } else if self.rights_left > 0 {
+                self.rights_left -= 1;
+                self.plan_rights();
+            } else if self.opens {
+                self.opens = false;
+                self.plan_open_with(&state.rights);
             } else if self.commands_left > 0 {
                 self.commands_left -= 1;
                 self.plan(state);
@@ -165,6 +199,12 @@ impl Sequence {
                 self.plan_index(&state.image);
             }
             25..=28 if self.size == Size::Any || self.random.one_in(4) => self.plan_stamp(),
+            29..=31 if self.size == Size::Any || self.random.one_in(4) => self.plan_rights(),
+            32 if self.size == Size::Any || self.random.one_in(4) => {
+                let step = extensions::chain(&mut self.random, self.size);
+                self.pending.push_back(step);
+                self.opens = true;
+            }
             _ => self.plan_command(&view, &state.image),
         }
     }
@@ -193,6 +233,13 @@ impl Sequence {
             _ => rights::chain(&mut self.random),
         };
         self.pending.push_back(Step::Open(rights));
+    }
+
+    /// Opens a session with the rights that were read into a buffer.
+    fn plan_open_with(&mut self, rights: &[u8]) {
+        self.moved = false;
+        let chain = rights[..RIGHTS_LEN.min(rights.len())].to_vec();
+        self.pending.push_back(Step::Open(chain));
     }
 
     fn plan_command(&mut self, view: &View, image: &[u8]) {
@@ -239,6 +286,12 @@ impl Sequence {
     /// A record to read as a stamp.
     fn plan_stamp(&mut self) {
         let step = stamps::step(&mut self.random, self.size);
+        self.pending.push_back(step);
+    }
+
+    /// Runs of extensions to read rights from.
+    fn plan_rights(&mut self) {
+        let step = extensions::step(&mut self.random, self.size);
         self.pending.push_back(step);
     }
 

@@ -3,6 +3,7 @@
 use crate::card::Size;
 use crate::hex::hex;
 use crate::index;
+use crate::make::{CERTIFICATE_LEN, RIGHTS_LEN, SESSION_LEN};
 use crate::random::Random;
 use crate::sequence::Sequence;
 use crate::step::{IndexCall, State, Step};
@@ -27,6 +28,8 @@ pub type IndexExtend = fn(u16, &[u8], &mut [u32], usize) -> u64;
 pub type IndexRead = fn(&[u8], &[u32], usize) -> u64;
 /// Reads a stamp: record, list.
 pub type StampRead = fn(&[u8], &mut [u32]) -> u64;
+/// Reads rights: three runs of extensions, buffer.
+pub type Rights = fn(&[u8], &[u8], &[u8], &mut [u8]) -> u64;
 
 /// One implementation.
 pub struct Machine {
@@ -39,6 +42,7 @@ pub struct Machine {
     pub index_extend: IndexExtend,
     pub index_read: IndexRead,
     pub stamp_read: StampRead,
+    pub rights: Rights,
 }
 
 pub const PROVED: Machine = Machine {
@@ -51,6 +55,7 @@ pub const PROVED: Machine = Machine {
     index_extend: malquindo_sys::index_extend,
     index_read: malquindo_sys::index_read,
     stamp_read: malquindo_sys::stamp_read,
+    rights: malquindo_sys::rights,
 };
 
 pub const REFERENCE: Machine = Machine {
@@ -63,6 +68,7 @@ pub const REFERENCE: Machine = Machine {
     index_extend: reference::index_extend,
     index_read: reference::index_read,
     stamp_read: reference::stamp::read_call,
+    rights: reference::rights,
 };
 
 /// All that a call may change.
@@ -73,8 +79,8 @@ pub struct Outcome {
     pub target: Vec<u8>,
 }
 
-/// A call after which the two sides are not the same; or READ RECORD of a record that an index has
-/// read otherwise.
+/// A call after which the two sides are not the same; READ RECORD of a record that an index has
+/// read otherwise; or rights in a session that was opened after a refusal.
 pub struct Difference {
     pub seed: u64,
     pub sequence: u64,
@@ -104,6 +110,21 @@ pub fn compare_stamp_readers(
     reference: &Machine,
 ) -> Result<Tally, Box<Difference>> {
     compare_sequences(seed, calls, proved, reference, Sequence::of_stamps)
+}
+
+/// Compares so many readings of rights of the seed, and nothing else.
+pub fn compare_rights(seed: u64, calls: u64) -> Result<Tally, Box<Difference>> {
+    compare_rights_readers(seed, calls, &PROVED, &REFERENCE)
+}
+
+/// The same of any two implementations.
+pub fn compare_rights_readers(
+    seed: u64,
+    calls: u64,
+    proved: &Machine,
+    reference: &Machine,
+) -> Result<Tally, Box<Difference>> {
+    compare_sequences(seed, calls, proved, reference, Sequence::of_rights)
 }
 
 /// Compares any two implementations; the sequences go on from what the second one left.
@@ -140,7 +161,7 @@ fn compare_sequences(
             sides.prepare(&step, &mut fill);
             sides.proved.run(&step, proved);
             sides.reference.run(&step, reference);
-            if sides.proved != sides.reference || !sides.read_again(&step) {
+            if !sides.agree(&step) {
                 return Err(Box::new(Difference {
                     seed,
                     sequence: number,
@@ -173,32 +194,23 @@ impl Sides {
         self.reference = Outcome::default();
     }
 
-    /// Gives both sides the same response buffer, target or list, of random bytes, and keeps what
-    /// they hold.
+    /// Gives both sides the same response buffer, target, list or buffer for rights, of random bytes,
+    /// and keeps what they hold.
     fn prepare(&mut self, step: &Step, fill: &mut Random) {
-        let Self {
-            before,
-            proved,
-            reference,
-        } = self;
+        let sides = [&mut self.before, &mut self.proved, &mut self.reference];
         match step {
             Step::Command { response_len, .. } => {
-                before.response.resize(*response_len, 0);
-                fill.fill(&mut before.response);
-                proved.response.clone_from(&before.response);
-                reference.response.clone_from(&before.response);
+                lend(sides, &fill.bytes(*response_len), |side| &mut side.response);
             }
             Step::Move { target_len, .. } => {
-                before.target.resize(*target_len, 0);
-                fill.fill(&mut before.target);
-                proved.target.clone_from(&before.target);
-                reference.target.clone_from(&before.target);
+                lend(sides, &fill.bytes(*target_len), |side| &mut side.target);
             }
             Step::Stamp { entries, .. } => {
                 let places = index::made_up(fill, *entries);
-                proved.state.places.clone_from(&places);
-                reference.state.places.clone_from(&places);
-                before.state.places = places;
+                lend(sides, &places, |side| &mut side.state.places);
+            }
+            Step::Rights { room, .. } => {
+                lend(sides, &fill.bytes(*room), |side| &mut side.state.rights);
             }
             // These have no buffer to fill, or bring their own.
             Step::Image(_)
@@ -208,9 +220,14 @@ impl Sides {
             | Step::Certificates { .. }
             | Step::Index { .. } => {}
         }
-        let held = &reference.state;
-        before.state.image.clone_from(&held.image);
-        before.state.session.clone_from(&held.session);
+        let held = &self.reference.state;
+        self.before.state.image.clone_from(&held.image);
+        self.before.state.session.clone_from(&held.session);
+    }
+
+    /// Whether nothing is wrong after a step.
+    fn agree(&self, step: &Step) -> bool {
+        self.proved == self.reference && self.read_again(step) && self.without_rights(step)
     }
 
     /// Whether a record that an index has read is what READ RECORD answers, on both sides.
@@ -226,6 +243,19 @@ impl Sides {
         }
     }
 
+    /// Whether a session that was opened after rights were refused has none, on both sides.
+    fn without_rights(&self, step: &Step) -> bool {
+        let refused = |state: &State| match step {
+            Step::Rights { .. } => state.answers.iter().any(|result| *result != 0),
+            _ => false,
+        };
+        [&self.proved.state, &self.reference.state]
+            .iter()
+            .filter(|state| refused(state))
+            .flat_map(|state| state.opened.iter().take(CERTIFICATE_LEN))
+            .all(|byte| *byte == 0)
+    }
+
     /// After a move that is done the card is the one that it wrote. The old one was compared
     /// before.
     fn go_on(&mut self, step: &Step) {
@@ -237,6 +267,15 @@ impl Sides {
     }
 }
 
+/// Gives each side the same bytes or places to begin with.
+fn lend<T: Clone>(sides: [&mut Outcome; 3], given: &[T], of: impl Fn(&mut Outcome) -> &mut Vec<T>) {
+    for side in sides {
+        let buffer = of(side);
+        buffer.clear();
+        buffer.extend_from_slice(given);
+    }
+}
+
 impl Outcome {
     fn run(&mut self, step: &Step, machine: &Machine) {
         let State {
@@ -245,6 +284,8 @@ impl Outcome {
             result,
             answers,
             places,
+            rights,
+            opened,
         } = &mut self.state;
         match step {
             Step::Image(new) => image.clone_from(new),
@@ -272,17 +313,16 @@ impl Outcome {
                 body,
             } => {
                 places.clone_from(list);
-                *answers = match *call {
-                    IndexCall::Build { kind } => vec![(machine.index_build)(kind, body, places)],
-                    IndexCall::Extend { kind, n } => {
-                        vec![(machine.index_extend)(kind, body, places, n)]
-                    }
-                    IndexCall::Read { first, last } => (first..=last)
-                        .map(|number| (machine.index_read)(body, places, number))
-                        .collect(),
-                };
+                *answers = index_calls(machine, *call, body, places);
             }
             Step::Stamp { record, .. } => *answers = vec![(machine.stamp_read)(record, places)],
+            Step::Rights {
+                runs: [first, second, third],
+                ..
+            } => {
+                *answers = vec![(machine.rights)(first, second, third, rights)];
+                *opened = open(rights, machine.open);
+            }
         }
     }
 
@@ -291,6 +331,27 @@ impl Outcome {
         let length = usize::from((self.state.result >> 16) as u16);
         self.response.get(..length).unwrap_or_default()
     }
+}
+
+/// The results of the calls of an index.
+fn index_calls(machine: &Machine, call: IndexCall, body: &[u8], places: &mut [u32]) -> Vec<u64> {
+    match call {
+        IndexCall::Build { kind } => vec![(machine.index_build)(kind, body, places)],
+        IndexCall::Extend { kind, n } => vec![(machine.index_extend)(kind, body, places, n)],
+        IndexCall::Read { first, last } => (first..=last)
+            .map(|number| (machine.index_read)(body, places, number))
+            .collect(),
+    }
+}
+
+/// The session that is opened with the rights in a buffer; none where it is too short for them.
+fn open(rights: &[u8], open: Open) -> Vec<u8> {
+    let Some(chain) = rights.get(..RIGHTS_LEN) else {
+        return vec![];
+    };
+    let mut session = vec![0xEE; SESSION_LEN];
+    open(chain, &mut session);
+    session
 }
 
 impl fmt::Display for Difference {
@@ -322,6 +383,9 @@ impl fmt::Display for Difference {
                 writeln!(f, "body     {}", hex(body))?;
             }
             Step::Stamp { record, .. } => writeln!(f, "stamp    {}", hex(record))?,
+            Step::Rights { runs, .. } => (1..)
+                .zip(runs)
+                .try_for_each(|(number, run)| writeln!(f, "run {number}    {}", hex(run)))?,
             Step::Image(_) | Step::Session(_) => writeln!(f, "no call")?,
         }
         self.side(f, "BEFORE", &self.before)?;
@@ -343,6 +407,10 @@ impl Difference {
             Step::Index { .. } if name == "BEFORE" => {}
             Step::Index { .. } | Step::Stamp { .. } => {
                 writeln!(f, "{name} list     {:?}", outcome.state.places)?;
+            }
+            Step::Rights { .. } => {
+                writeln!(f, "{name} rights   {}", hex(&outcome.state.rights))?;
+                writeln!(f, "{name} opened   {}", hex(&outcome.state.opened))?;
             }
             _ => writeln!(f, "{name} response {}", hex(&outcome.response))?,
         }
@@ -388,6 +456,10 @@ impl Difference {
                     f,
                     "{name} result {result}: reason {reason}, offset {offset}"
                 )
+            }),
+            Step::Rights { .. } => state.answers.iter().try_for_each(|result| {
+                let (refusal, low) = (result >> 32, *result as u32);
+                writeln!(f, "{name} result {result}: refusal {refusal}, and {low}")
             }),
             _ => writeln!(
                 f,

@@ -218,8 +218,10 @@ impl Object {
     }
 }
 
-fn bytes_of(objects: &[Object]) -> Vec<u8> {
-    objects.iter().flat_map(Object::bytes).collect()
+/// The bytes of objects, one behind the other.
+pub fn bytes_of(objects: &[Object]) -> Vec<u8> {
+    let each: Vec<Vec<u8>> = objects.iter().map(Object::bytes).collect();
+    each.concat()
 }
 
 /// The values of a stamp's fields; none for one that is absent.

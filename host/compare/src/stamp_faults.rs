@@ -1,5 +1,6 @@
 //! What may be wrong with a stamp: one thing at one place, and how a reader must tell it.
 
+use crate::make::length as length_of;
 use crate::stamp::{Container, Draft, Object, Place, FIELDS, STATE, STATE_COPY};
 
 /// What is done to the object of a place.
@@ -261,12 +262,6 @@ fn moved(draft: &mut Draft, place: Place, before: usize) -> Option<(Container, u
     }
 }
 
-/// The bytes of a length in its shortest form.
-fn shortest_form(length: usize) -> Vec<u8> {
-    let object = crate::make::object(&[], &vec![0; length]);
-    object[..object.len() - length].to_vec()
-}
-
 fn wrong_length(draft: &mut Draft, place: Place, before: usize, fault: Fault) -> Option<()> {
     let list = draft.list(place.container())?;
     if before == list.len() {
@@ -290,7 +285,7 @@ fn wrong_length(draft: &mut Draft, place: Place, before: usize, fault: Fault) ->
         _ => {}
     }
     list[before].length = match fault {
-        Past => form(&shortest_form(behind - whole + content + 1)),
+        Past => form(&length_of(behind - whole + content + 1)),
         Form81 if low < 0x80 => form(&[0x81, low]),
         Form82 => form(&[0x82, 0x00, low]),
         Form80 => form(&[0x80]),
@@ -323,7 +318,7 @@ fn torn_apart(list: &mut Vec<Object>, before: usize, place: Place) -> Option<()>
         let byte = content.first().copied().unwrap_or(b'A');
         content.resize(length, byte);
     }
-    object.length = Some(shortest_form(content.len()));
+    object.length = Some(length_of(content.len()));
     content.pop();
     object.inside.clear();
     object.value = content;

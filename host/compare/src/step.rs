@@ -1,5 +1,6 @@
 //! One step of a run, and what a side holds between two steps.
 
+use crate::extension::Runs;
 use std::fmt;
 
 /// One thing to do. An image or a session stays until another comes; a move that is done brings
@@ -39,6 +40,11 @@ pub enum Step {
     Stamp {
         record: Vec<u8>,
         entries: usize,
+    },
+    /// The rights of three runs of extensions, read into a buffer of so many bytes.
+    Rights {
+        runs: Runs,
+        room: usize,
     },
 }
 
@@ -93,12 +99,16 @@ pub struct State {
     pub session: Vec<u8>,
     /// The result of the last opening, command or move.
     pub result: u64,
-    /// The results of the last step that is none of these: one of a file, of a stamp, and of
-    /// building or extending an index; as many as there are references or numbers of certificates
+    /// The results of the last step that is none of these: one of a file, of a stamp, of rights, and
+    /// of building or extending an index; as many as there are references or numbers of certificates
     /// and of reading by an index.
     pub answers: Vec<u64>,
     /// The list after the last call of an index, or of a stamp.
     pub places: Vec<u32>,
+    /// The buffer after the last reading of rights.
+    pub rights: Vec<u8>,
+    /// A session that was then opened with what it holds; none where that is too short.
+    pub opened: Vec<u8>,
 }
 
 impl State {
@@ -120,9 +130,11 @@ impl State {
             Step::Open(_) | Step::Command { .. } | Step::Move { .. } => {
                 std::slice::from_ref(&self.result)
             }
-            Step::File(_) | Step::Certificates { .. } | Step::Index { .. } | Step::Stamp { .. } => {
-                &self.answers
-            }
+            Step::File(_)
+            | Step::Certificates { .. }
+            | Step::Index { .. }
+            | Step::Stamp { .. }
+            | Step::Rights { .. } => &self.answers,
         }
     }
 }

@@ -1,6 +1,7 @@
 //! How often each outcome occurred.
 
 use crate::command::NAMES;
+use crate::extension_tally::ExtensionTally;
 use crate::index_tally::IndexTally;
 use crate::make;
 use crate::stamp_tally::StampTally;
@@ -54,13 +55,15 @@ pub struct Tally {
     references: BTreeMap<u8, u64>,
     pub index: IndexTally,
     pub stamp: StampTally,
+    pub extension: ExtensionTally,
 }
 
 impl Tally {
     pub fn calls(&self) -> u64 {
         let files: u64 = self.files.iter().sum();
         let certificates: u64 = self.certificates.iter().sum();
-        let others = files + certificates + self.index.calls() + self.stamp.calls();
+        let readings = self.stamp.calls() + self.extension.calls();
+        let others = files + certificates + self.index.calls() + readings;
         self.commands + self.opens + self.moves + others
     }
 
@@ -71,6 +74,7 @@ impl Tally {
         }
         self.index.step(step, results);
         self.stamp.step(step, results);
+        self.extension.step(step, results);
         for (at, result) in results.iter().enumerate() {
             self.call(step, at, *result);
         }
@@ -90,8 +94,12 @@ impl Tally {
             }
             Step::File(_) => self.files[usize::from(result != 0)] += 1,
             Step::Certificates { first, .. } => self.certificate(first + at as u8, result),
-            // Indexes and stamps have tallies of their own.
-            Step::Image(_) | Step::Session(_) | Step::Index { .. } | Step::Stamp { .. } => {}
+            // Indexes, stamps and extensions have tallies of their own.
+            Step::Image(_)
+            | Step::Session(_)
+            | Step::Index { .. }
+            | Step::Stamp { .. }
+            | Step::Rights { .. } => {}
         }
     }
 
@@ -147,7 +155,7 @@ impl Tally {
     /// search by an id and by either spelling of a short id, 6981 of the last two, 6A82 of a search by
     /// another byte, moves done, files found and not, what comes of a reference, bodies that are
     /// damaged, empty or full, each of the 256 references, each sort of call of an index, each
-    /// fault of a stamp at each place.
+    /// fault of a stamp at each place, each fault of an extension.
     pub fn missing(&self, each: u64, done: u64) -> Vec<String> {
         let statuses = STATUSES
             .iter()
@@ -183,6 +191,7 @@ impl Tally {
             .chain(self.wanted_files_and_certificates(each, done))
             .chain(self.index.wanted(each, done))
             .chain(self.stamp.wanted(each, done))
+            .chain(self.extension.wanted(each, done))
             .filter(|(_, count, wanted)| count < wanted)
             .map(|(what, count, wanted)| format!("{what}: {count} times, {wanted} wanted"))
             .collect()
@@ -271,10 +280,9 @@ impl fmt::Display for Tally {
         let certificates: u64 = self.certificates.iter().sum();
         write!(f, "{commands} commands, {opens} openings, {moves} moves, ")?;
         let (index, stamps) = (self.index.calls(), self.stamp.calls());
-        writeln!(
-            f,
-            "{files} files, {certificates} certificates, {index} index calls, {stamps} stamps\n"
-        )?;
+        let rights = self.extension.calls();
+        write!(f, "{files} files, {certificates} certificates, ")?;
+        writeln!(f, "{index} index calls, {stamps} stamps, {rights} rights\n")?;
         write!(f, "| status |")?;
         let names = NAMES.iter().map(|(_, name, ..)| *name);
         for name in names.chain(["other", "all"]) {
@@ -314,7 +322,7 @@ impl fmt::Display for Tally {
             writeln!(f, "| refusal {number} | {} |", self.moved(number))?;
         }
         self.show_files_and_certificates(f)?;
-        write!(f, "{}{}", self.index, self.stamp)
+        write!(f, "{}{}{}", self.index, self.stamp, self.extension)
     }
 }
 

@@ -320,6 +320,8 @@ fn said(step: &Step, line: &str) -> String {
             None => format!("refusal {refusal}, list {rest}"),
             Some(reason) => format!("{} at {}, list {rest}", reason.name(), result as u32),
         },
+        Step::Rights { .. } if refusal == 0 => format!("rights {rest}"),
+        Step::Rights { .. } => format!("refusal {refusal} {rest}"),
         Step::Image(_) | Step::Session(_) | Step::Open(_) => String::new(),
     }
 }
@@ -333,6 +335,7 @@ fn the_sample_covers_what_it_should() {
     assert!((60..=140).contains(&sample.tally.moves));
     assert!((300..=500).contains(&sample.tally.index.calls()));
     assert!((1_000..=1_200).contains(&sample.tally.stamp.calls()));
+    assert!((600..=800).contains(&sample.tally.extension.calls()));
     let lines = sample.stdout.lines().count() as u64;
     assert_eq!(lines, sample.tally.calls());
     assert_eq!(Sample::generate(sample::SEED).stdin, sample.stdin);

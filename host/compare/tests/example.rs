@@ -25,6 +25,7 @@ fn the_c_example_prints_its_answers() {
          9000\ncertificate 1, card: 7F21C1\ncertificate 2, desk: 7F21C2\n\
          certificate 3 is missing\n\
          9000\nrecord 2, by the index: 5F4403465241\n5F44034652419000\n\
-         stamp of UTO, certificate 2, no mode\nno stamp: a wrong value at 8\n"
+         stamp of UTO, certificate 2, no mode\nno stamp: a wrong value at 8\n\
+         rights: 030F01\na bad extension: 000000\nan extension twice: 000000\n"
     );
 }

@@ -1,6 +1,7 @@
-//! The ten functions of `include/malquindo.h`, declared as they stand there, and the same
-//! functions on slices ([`open`], [`command`], [`move_card`], [`file`](fn@file), [`certificate`],
-//! [`index_build`], [`index_extend`], [`index_read`] and [`stamp_read`]), which are safe to call.
+//! The eleven functions of `include/malquindo.h`, declared as they stand there, and the same
+//! functions on slices ([`rights`], [`open`], [`command`], [`move_card`], [`file`](fn@file),
+//! [`certificate`], [`index_build`], [`index_extend`], [`index_read`] and [`stamp_read`]), which are
+//! safe to call.
 //!
 //! Most callers want the crate `malquindo`, which has types for sessions, answers and refusals.
 //!
@@ -14,6 +15,19 @@
 extern "C" {
     /// How many bytes a session has.
     pub fn malquindo_session_len() -> usize;
+
+    /// Reads the rights of three certificates, each from the run of its extensions. The result is
+    /// refusal * 2^32.
+    pub fn malquindo_rights(
+        first: *const u8,
+        first_len: usize,
+        second: *const u8,
+        second_len: usize,
+        third: *const u8,
+        third_len: usize,
+        rights: *mut u8,
+        rights_len: usize,
+    ) -> u64;
 
     /// Opens a session with the rights of three certificates. The result is refusal * 2^32.
     pub fn malquindo_open(
@@ -104,6 +118,25 @@ extern "C" {
 pub fn session_len() -> usize {
     // SAFETY: the function takes nothing.
     unsafe { malquindo_session_len() }
+}
+
+/// `malquindo_rights` on slices of any length.
+pub fn rights(first: &[u8], second: &[u8], third: &[u8], rights: &mut [u8]) -> u64 {
+    // SAFETY: pointers and lengths are those of slices, which are never null; the slice that is
+    // written is borrowed by this call alone, and the others are only read, so that those which
+    // overlap do no harm.
+    unsafe {
+        malquindo_rights(
+            first.as_ptr(),
+            first.len(),
+            second.as_ptr(),
+            second.len(),
+            third.as_ptr(),
+            third.len(),
+            rights.as_mut_ptr(),
+            rights.len(),
+        )
+    }
 }
 
 /// `malquindo_open` on slices of any length.

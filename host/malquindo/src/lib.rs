@@ -32,6 +32,8 @@
 //! # Ok::<(), malquindo::Refusal>(())
 //! ```
 //!
+//! [`rights`] reads the rights to open with from the extensions of three certificates.
+//!
 //! [`move_card`] writes a card anew, with other rooms. [`file`](fn@file) finds a file's body in an
 //! image, and [`certificate`] the certificate that a stamp names. An [`Index`] reads a record
 //! without a walk over those before it. [`read_stamp`] tells what a stamp says.
@@ -39,14 +41,18 @@
 #![forbid(unsafe_code)]
 
 mod index;
+mod rights;
 mod stamp;
 
 pub use index::Index;
+pub use rights::{rights, RightsRefusal};
 pub use stamp::{read_stamp, Stamp, StampFault, StampField, StampReason};
 
 use std::fmt;
 use std::ops::Range;
 
+/// How many bytes the rights of three certificates have.
+pub const RIGHTS_LEN: usize = 60;
 /// How many bytes a session has.
 pub const SESSION_LEN: usize = 25;
 /// How many bytes the response buffer of a command has at least.
@@ -74,7 +80,8 @@ impl Session {
 }
 
 /// Why a call was refused. [`Refusal::number`] is the number that the library answers. The header
-/// has one more, 15, for a list that is too short for a stamp; that of [`read_stamp`] never is.
+/// has three more: 7 and 8, which [`rights`] tells as a [`RightsRefusal`], and 15, for a list that
+/// is too short for a stamp; that of [`read_stamp`] never is.
 #[derive(Clone, Copy, Debug, PartialEq, Eq)]
 pub enum Refusal {
     /// 1: the response buffer is shorter than [`RESPONSE_LEN`] bytes.
@@ -176,7 +183,7 @@ pub struct Answer<'r> {
     pub data: &'r [u8],
 }
 
-/// Opens a session with the rights of three certificates of 20 bytes each.
+/// Opens a session with the rights of three certificates of 20 bytes each, such as [`rights`] reads.
 pub fn open(rights: &[u8]) -> Result<Session, Refusal> {
     let mut session = [0; SESSION_LEN];
     accepted(malquindo_sys::open(rights, &mut session))?;

@@ -1,29 +1,32 @@
 //! Compares the proved library with the reference: `compare --seed N --calls N`, or on stamps alone
-//! `compare --seed N --stamps N`.
+//! `compare --seed N --stamps N`, or on rights alone `compare --seed N --rights N`.
 
-use compare::sides::{compare, compare_stamps};
+use compare::sides::{compare, compare_rights, compare_stamps};
 use std::process::ExitCode;
 use std::time::Instant;
 
 fn main() -> ExitCode {
     let Some((seed, run)) = arguments() else {
-        eprintln!("usage: compare [--seed N] [--calls N | --stamps N]");
+        eprintln!("usage: compare [--seed N] [--calls N | --stamps N | --rights N]");
         return ExitCode::from(2);
     };
     let start = Instant::now();
     let compared = match run {
         Run::Calls(calls) => compare(seed, calls),
         Run::Stamps(stamps) => compare_stamps(seed, stamps),
+        Run::Rights(rights) => compare_rights(seed, rights),
     };
     match compared {
         Ok(tally) => {
             let (calls, index, stamps) = (tally.calls(), tally.index.calls(), tally.stamp.calls());
             print!("seed {seed}: no difference in {calls} calls, ");
-            println!("{index} of them of an index, {stamps} of stamps");
+            let rights = tally.extension.calls();
+            println!("{index} of them of an index, {stamps} of stamps, {rights} of rights");
             println!("{:.1} seconds\n", start.elapsed().as_secs_f64());
             match run {
                 Run::Calls(_) => print!("{tally}"),
                 Run::Stamps(_) => print!("{}", tally.stamp),
+                Run::Rights(_) => print!("{}", tally.extension),
             }
             ExitCode::SUCCESS
         }
@@ -39,6 +42,7 @@ fn main() -> ExitCode {
 enum Run {
     Calls(u64),
     Stamps(u64),
+    Rights(u64),
 }
 
 /// Seed and run, each with a value to go by where it is not given.
@@ -51,6 +55,7 @@ fn arguments() -> Option<(u64, Run)> {
             "--seed" => seed = value,
             "--calls" => run = Run::Calls(value),
             "--stamps" => run = Run::Stamps(value),
+            "--rights" => run = Run::Rights(value),
             _ => return None,
         }
     }
