@@ -24,7 +24,7 @@
  *    4  open           the session buffer is shorter than MALQUINDO_SESSION_LEN
  *       command        it is shorter, its bytes are no session, or the session does not fit the image
  *    6  index          the body, the list or the number does not fit; each function says when
- *    7  rights         an extension is not well formed, or the rights of a known one have another size
+ *    7  rights         an extension is not well formed, or the rights of a known one have the wrong size
  *    8  rights         a known extension stands in a run for the second time
  *    9  certificate    the card's body or the desk's body is not well formed
  *   10  move           the list lays out no valid image
@@ -65,21 +65,22 @@ size_t malquindo_session_len(void);
 
 /* Reads the rights of three certificates from their extensions: the MALQUINDO_RIGHTS_LEN bytes that malquindo_open takes.
  *
- * Each run has the extensions of a certificate, one behind the other, perhaps none; the first run is for the first certificate,
- * and so on. A run may have any length. An extension is the object 73 with two objects in it: 06, the identifier, and then 53,
- * the rights. Three identifiers are known: 67 81 08 01 01 09 01 03 (travel, rights of 1 byte), the same with 02 03 at its end
- * (visa, 1 byte) and with 03 03 (biometrics, 17 bytes). They may stand in any order. An extension with any other identifier is
- * passed over, whatever rights it has.
+ * Each run has the extensions of a certificate, one behind the other; the first run is for the first certificate, and so on. A
+ * run may have any length. For a certificate without extensions it is 0; the pointer is still not null. An extension is the
+ * object 73 with two objects in it: 06, the identifier, and then 53, the rights. Three identifiers are known: 67 81 08 01 01 09
+ * 01 03 (travel, rights of 1 byte), the same with 02 03 at its end (visa, 1 byte) and with 03 03 (biometrics, 17 bytes). They
+ * may stand in any order. An extension with any other identifier, of any length, even 0, is passed over, whatever rights it has.
  *
  * 0: the first MALQUINDO_RIGHTS_LEN bytes of the buffer are the rights, 20 bytes for each certificate: a flag for each known
  * extension that is there (b1 travel, b2 visa, b3 biometrics), the travel byte, the visa byte, 17 bytes of biometrics. The
  * rights stand as in the certificate; what is absent is zero. Bytes behind them stay as they came.
  *
- * Refusal 1, before all: the buffer has fewer bytes than that. It then stays as it came. Refusals 7 and 8 tell of the first
- * extension at fault, those of the first run coming first; where both are true of it, 7 is told. Then the first
- * MALQUINDO_RIGHTS_LEN bytes of the buffer are zero, even where another run is in order: opening with them gives no rights.
- * Refusal 7 has these reasons: the tag is not 73; a length is not in its shortest form, or goes past the end; the value of 73
- * is not exactly 06 and then 53; the rights of a known extension have another size.
+ * Refusal 1, before all: rights_len is below MALQUINDO_RIGHTS_LEN. The buffer then stays as it came. Refusals 7 and 8 tell of
+ * the first extension at fault; those of the first run come first. Where both are true of it, 7 is told. The first
+ * MALQUINDO_RIGHTS_LEN bytes of the buffer are then zero, even where another run has no fault: opening with them gives no
+ * rights. Refusal 7 has these reasons: the tag is not 73; a length goes past the end, or is none of 00 to 7F, 81 80 to 81 FF and
+ * 82 01 00 to 82 FF FF; the value of 73, known or not, is not exactly 06 and then 53; the rights of a known extension have the
+ * wrong size. Refusal 8: a known extension stands in its run for the second time.
  *
  * The lower 32 bits of the result are always 0. The runs are only read, and may overlap. */
 uint64_t malquindo_rights(const uint8_t *first, size_t first_len, const uint8_t *second, size_t second_len,

@@ -144,6 +144,7 @@ static int chain(const uint8_t *run, size_t run_len)
 {
     uint8_t rights[MALQUINDO_RIGHTS_LEN];
     uint64_t result = malquindo_rights(run, run_len, run, run_len, run, run_len, rights, sizeof rights);
+    /* A caller would stop at a refusal; this goes on to show that the session then has no rights. */
     if (malquindo_open(rights, sizeof rights, session, sizeof session) != 0)
         return 1;
     switch (malquindo_refusal(result)) {

@@ -157,7 +157,7 @@ REFUSAL_WORDS = {
     Refusal.BAD_RIGHTS: 'the rights are not 60 bytes',
     Refusal.BAD_SESSION: 'the session is malformed, or does not fit the image',
     Refusal.BAD_INDEX: 'the body, the index or the number does not fit',
-    Refusal.BAD_EXTENSION: 'an extension is not well formed, or its rights have another size',
+    Refusal.BAD_EXTENSION: 'an extension is not well formed, or the rights of a known one have the wrong size',
     Refusal.SECOND_EXTENSION: 'a certificate has a known extension twice',
     Refusal.BAD_CERTIFICATES: 'a body of travel certificates is not well formed',
     Refusal.BAD_LIST: 'the list of rooms lays out no valid image',
@@ -323,8 +323,8 @@ class Stamp(NamedTuple):
 
 
 def rights(first: Buffer, second: Buffer, third: Buffer) -> bytes:
-    """The rights of three certificates, each read from the run of its extensions: the bytes that `open` takes. Refused where a run is not in
-    order, even if the others are.
+    """The rights of three certificates, each read from the run of its extensions: the bytes that `open` takes. Refused where a run
+    has a fault, even if the others have none.
 
     An extension is 73{06 identifier, 53 rights}. Those of travel, visa and biometrics are known and stand in any order; any other is passed
     over, whatever rights it has. What is absent is zero. A certificate without extensions is b''.

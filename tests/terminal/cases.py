@@ -36,7 +36,7 @@ CANNOT = "! this line cannot be read, and nothing is changed: "
 TOO_LONG = "! this line is longer than 65,536 bytes, and nothing is changed"
 OPENED = "= session opened"
 MOVED = "= moved to a new file"
-MALFORMED = "! refused (7): an extension is not well formed, or its rights have another size"
+MALFORMED = "! refused (7): an extension is not well formed, or the rights of a known one have the wrong size"
 TWICE = "! refused (8): a certificate has a known extension twice"
 NO_CERTIFICATES = "! refused (9): the card or the copy has no well-formed body of travel certificates"
 
@@ -52,7 +52,7 @@ Each line is answered. Spaces may stand anywhere in hexadecimal; # starts a comm
                               opens a session with what a certificate would grant
   open FFFF ... FF            opens a session with three certificates, 60 bytes in hexadecimal
   certificates RUN RUN RUN    opens a session with the rights in the extensions of three certificates, and says which these are
-                              (a run is hexadecimal without spaces, `-` without extensions)
+                              (a run is hexadecimal without spaces, `-` without extensions; refused, the session has no rights)
   rights                      says what the session may do
   session                     says the session's application, file and record
   show                        lists what the card holds
@@ -242,13 +242,14 @@ def extensions(c):
     c.says(f"certificates {mixed} {run} {mixed}", OPENED, "= rights: travel=read,append visa=read")
     full = "".join(extension(IDENTIFIERS[name], b"\xFF" * n) for name, n in (("biometrics", 17), ("travel", 1), ("visa", 1)))
     c.says(f"certificates {full} {full} {full}", OPENED, "= rights: all")
-    # refused, the session stays: 7 before 8, the earlier extension first, the first certificate first
+    # refused, the session has no rights: 7 before 8, the earlier extension first, the first certificate first
     one, long = run_of(travel), extension(IDENTIFIERS["travel"], b"\x01\x00")
     for first, second, third, refused in ((long, "-", "-", MALFORMED), ("-", "-", one[:-2], MALFORMED), (one + one, "-", "-", TWICE),
                                           (one, one + long, "-", MALFORMED), (one, one + one + long, "-", TWICE),
                                           (one, one + one, long, TWICE), (one, "73", one + one, MALFORMED), (one, "00", one, MALFORMED)):
+        c.says(f"certificates {full} {full} {full}", OPENED, "= rights: all")
         c.says(f"certificates {first} {second} {third}", refused)
-    c.says("rights", "= rights: all")
+        c.says("rights", "= rights: none")
     for line in ("certificates", "certificates - -", "certificates - - - -", "certificates zz - -", "certificates 7 - -", "certificates - -- -",
                  "certificate - - -"):
         c.cannot(line)

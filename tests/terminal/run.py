@@ -153,13 +153,13 @@ def test_certificates(folder):
 
 
 def test_extensions(folder):
-    """Extensions that are refused end with status 1, and the session stays; a line that is no line of certificates cannot be read."""
+    """Extensions that are refused end with status 1, and the session has no rights; a line that is no line of certificates cannot be read."""
     run_ = cases.run_of([("travel", ["read"])])
     opened = cases.OPENED + "\n= rights: travel=read\n"
     line = f"certificates {run_} {run_} {run_}\n"
     assert run(folder, line.encode()) == (0, opened, "")
-    assert run(folder, f"{line}certificates {run_} - 73\nrights".encode()) == (1, opened + "= rights: travel=read\n", cases.MALFORMED + "\n")
-    assert run(folder, f"open none\ncertificates {run_ * 2} - -\nrights".encode()) == (1, cases.OPENED + "\n= rights: none\n", cases.TWICE + "\n")
+    assert run(folder, f"{line}certificates {run_} - 73\nrights".encode()) == (1, opened + "= rights: none\n", cases.MALFORMED + "\n")
+    assert run(folder, f"open all\ncertificates {run_ * 2} - -\nrights".encode()) == (1, cases.OPENED + "\n= rights: none\n", cases.TWICE + "\n")
     assert run(folder, b"certificates - -") == (1, "", cases.CANNOT + "certificates - -\n")
 
 

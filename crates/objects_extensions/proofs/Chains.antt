@@ -18,15 +18,15 @@ use Rattle.objects_extensions.specs.declared.RightsRead.{RightsRead}
 use Rattle.objects_extensions.specs.declared.RightsRead.the-variants.{Told, ShortBuffer}
 use Rattle.objects_extensions.specs.Extensions.{Extension, certificateData, RunsOf}
 use Rattle.objects_extensions.specs.Faults.{ChainFault, in-first, in-second, in-third}
-use Rattle.objects_extensions.specs.Read.{isWhole, RunResult, whole, runOn, blank, chainOf, chainData, readRights, readRightsInto}
+use Rattle.objects_extensions.specs.Read.{isWhole, RunResult, whole, runOn, emptyCertificate, runsOn, chainData, readRights, readRightsInto}
 use Rattle.objects_extensions.proofs.Runs.{not-whole, run-complete, certificate-length, run-fault, run-or-fault}
 use Rattle.objects_extensions.proofs.Steps.{Gave, of-gave}
 
 -- ---- what three runs give
 
 module _ (f s t : List ℕ) where
-  pub chain-complete : (a b c : List Extension) → RunsOf a b c f s t → chainOf f s t ≡ whole (certificateData a ++ (certificateData b ++ certificateData c))
-  unfolding chainOf
+  pub chain-complete : (a b c : List Extension) → RunsOf a b c f s t → runsOn f s t ≡ whole (certificateData a ++ (certificateData b ++ certificateData c))
+  unfolding runsOn
   chain-complete a b c x = rw (run-complete a f (x .is-first), run-complete b s (x .is-second), run-complete c t (x .is-third)) refl
 
   pub chain-length : (a b c : List Extension) → RunsOf a b c f s t → length (certificateData a ++ (certificateData b ++ certificateData c)) ≡ 60
@@ -36,8 +36,8 @@ module _ (f s t : List ℕ) where
       omega (arith, certificate-length a f (x .is-first), certificate-length b s (x .is-second), certificate-length c t (x .is-third))
 
   module _ (bf : AllBytes f) (bs : AllBytes s) (bt : AllBytes t) where
-    pub chain-fault : (w : ExtensionFault) → ChainFault f s t w → (chainOf f s t) .read ≡ Faulty w
-    unfolding chainOf
+    pub chain-fault : (w : ExtensionFault) → ChainFault f s t w → (runsOn f s t) .read ≡ Faulty w
+    unfolding runsOn
     chain-fault w (in-first x) = let e = run-fault f w bf x in rw e (simp (not-whole w))
     chain-fault w (in-second a x y) = let e = run-fault s w bs y in rw (run-complete a f x, e) (simp (not-whole w))
     chain-fault w (in-third a b x y z) = let e = run-fault t w bt z in rw (run-complete a f x, run-complete b s y, e) (simp (not-whole w))
@@ -75,7 +75,7 @@ module _ (f s t out : List ℕ) where
   unfolding readRights readRightsInto
   rights-short h = let e = lt-ltb (length out) 60 h in (simp e, simp e)
 
-  of-chain : {r : RightsRead} {d : List ℕ} (x : RunResult) → 60 ≤ length out → chainOf f s t ≡ x → (r ≡ Told (x .read)) × (d ≡ put out 0 (chainData x)) → Done r d
+  of-chain : {r : RightsRead} {d : List ℕ} (x : RunResult) → 60 ≤ length out → runsOn f s t ≡ x → (r ≡ Told (x .read)) × (d ≡ put out 0 (chainData x)) → Done r d
   unfolding readRights readRightsInto
   of-chain x h e g = let i = le-ltb (length out) 60 h in (simp i (rw e (g .0)), simp i (rw e (g .1)))
 
@@ -83,24 +83,24 @@ module _ (f s t out : List ℕ) where
   abbrev Refused : RunRead → RightsRead → List ℕ → Type 0
   Refused n r d = (r ≡ Told n) × (d ≡ put out 0 (replicate 60 0))
 
-  module _ (h : 60 ≤ length out) {x : RunRead} {a : List ℕ} (ga : Gave (runOn blank f) x a) {u : Bool} (eu : u ≡ isWhole x) where
+  module _ (h : 60 ≤ length out) {x : RunRead} {a : List ℕ} (ga : Gave (runOn emptyCertificate f) x a) {u : Bool} (eu : u ≡ isWhole x) where
     pub rights-first : not u ≡ true → {r : RightsRead} {d : List ℕ} → Refused x r d → Done r d
-    unfolding chainOf chainData
-    rights-first n g = of-chain (record { read = x; certificate = a }) h (rw (of-gave ga) (simp (flag-refused eu n))) (simp (flag-refused eu n) g)
+    unfolding runsOn chainData
+    rights-first n g = of-chain (record { read = x; bytes = a }) h (rw (of-gave ga) (simp (flag-refused eu n))) (simp (flag-refused eu n) g)
 
-    module _ (i : not u ≡ false) {y : RunRead} {b : List ℕ} (gb : Gave (runOn blank s) y b) {v : Bool} (ev : v ≡ isWhole y) where
+    module _ (i : not u ≡ false) {y : RunRead} {b : List ℕ} (gb : Gave (runOn emptyCertificate s) y b) {v : Bool} (ev : v ≡ isWhole y) where
       pub rights-second : not v ≡ true → {r : RightsRead} {d : List ℕ} → Refused y r d → Done r d
-      unfolding chainOf chainData
-      rights-second n g = of-chain (record { read = y; certificate = b }) h (rw (of-gave ga, of-gave gb) (simp (flag-accepted eu i, flag-refused ev n))) (simp (flag-refused ev n) g)
+      unfolding runsOn chainData
+      rights-second n g = of-chain (record { read = y; bytes = b }) h (rw (of-gave ga, of-gave gb) (simp (flag-accepted eu i, flag-refused ev n))) (simp (flag-refused ev n) g)
 
-      module _ (j : not v ≡ false) {z : RunRead} {c : List ℕ} (gc : Gave (runOn blank t) z c) {w : Bool} (ew : w ≡ isWhole z) where
+      module _ (j : not v ≡ false) {z : RunRead} {c : List ℕ} (gc : Gave (runOn emptyCertificate t) z c) {w : Bool} (ew : w ≡ isWhole z) where
         pub rights-third : not w ≡ true → {r : RightsRead} {d : List ℕ} → Refused z r d → Done r d
-        unfolding chainOf chainData
+        unfolding runsOn chainData
         rights-third n g =
-            of-chain (record { read = z; certificate = c }) h (rw (of-gave ga, of-gave gb, of-gave gc) (simp (flag-accepted eu i, flag-accepted ev j, flag-refused ew n))) (simp (flag-refused ew n) g)
+            of-chain (record { read = z; bytes = c }) h (rw (of-gave ga, of-gave gb, of-gave gc) (simp (flag-accepted eu i, flag-accepted ev j, flag-refused ew n))) (simp (flag-refused ew n) g)
 
         pub rights-all : not w ≡ false → length a ≡ 20 → length b ≡ 20 → length c ≡ 20 → {d e g : List ℕ} → d ≡ put out 0 a → e ≡ put d 20 b → g ≡ put e 40 c → Done (Told Whole) g
-        unfolding chainOf chainData
+        unfolding runsOn chainData
         rights-all k la lb lc {d} {e} {g} p q r =
-            let m : chainOf f s t ≡ whole (a ++ (b ++ c)) = rw (of-gave ga, of-gave gb, of-gave gc) (simp (flag-accepted eu i, flag-accepted ev j, flag-accepted ew k)) in
+            let m : runsOn f s t ≡ whole (a ++ (b ++ c)) = rw (of-gave ga, of-gave gb, of-gave gc) (simp (flag-accepted eu i, flag-accepted ev j, flag-accepted ew k)) in
             of-chain (whole (a ++ (b ++ c))) h m (refl, rw (r, q, p) (put-three out a b c h la lb lc))

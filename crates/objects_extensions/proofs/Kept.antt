@@ -1,6 +1,6 @@
 -- One extension upon the certificate that those before it give: it adds its flag and its rights, or tells its fault. Read before:
--- specs/Extensions.antt, specs/Faults.antt. Exports `Filled`, `filled-none`, `filled-next`, `none-given`, `keep-in-order`, `keep-fault`,
--- `order-or-fault`.
+-- specs/Extensions.antt, specs/Faults.antt. Exports `Filled`, `filled-none`, `filled-next`, `none-given`, `flag-is`, `keep-free`, `keep-fault`,
+-- `free-or-fault`.
 use Prim.Native.Nat.{ℕ, suc, _+_, _/_, _%_, _*_, _≤_, _<_}
 use mathlib.Core.Path.{_≡_, refl, sym, ap, _∙_}
 use mathlib.Core.Bool.{Bool, true, false}
@@ -26,28 +26,28 @@ use Rattle.objects_extensions.specs.Read.{RunResult, whole, faulty, righ
 
 -- ---- which extension it is
 
-other-identifier : (j k : Known) → identifierOf j ≡ identifierOf k → j ≡ k
-other-identifier Travel Travel e = refl
-other-identifier Visa Visa e = refl
-other-identifier Biometrics Biometrics e = refl
-other-identifier Travel Visa e = let z : _≡_ {A = ℕ} 1 2 = ap (λ (l : List ℕ). getD l 6 0) e in absurd (omega arith)
-other-identifier Travel Biometrics e = let z : _≡_ {A = ℕ} 1 3 = ap (λ (l : List ℕ). getD l 6 0) e in absurd (omega arith)
-other-identifier Visa Travel e = let z : _≡_ {A = ℕ} 2 1 = ap (λ (l : List ℕ). getD l 6 0) e in absurd (omega arith)
-other-identifier Visa Biometrics e = let z : _≡_ {A = ℕ} 2 3 = ap (λ (l : List ℕ). getD l 6 0) e in absurd (omega arith)
-other-identifier Biometrics Travel e = let z : _≡_ {A = ℕ} 3 1 = ap (λ (l : List ℕ). getD l 6 0) e in absurd (omega arith)
-other-identifier Biometrics Visa e = let z : _≡_ {A = ℕ} 3 2 = ap (λ (l : List ℕ). getD l 6 0) e in absurd (omega arith)
+identifier-injective : (j k : Known) → identifierOf j ≡ identifierOf k → j ≡ k
+identifier-injective Travel Travel e = refl
+identifier-injective Visa Visa e = refl
+identifier-injective Biometrics Biometrics e = refl
+identifier-injective Travel Visa e = let z : _≡_ {A = ℕ} 1 2 = ap (λ (l : List ℕ). getD l 6 0) e in absurd (omega arith)
+identifier-injective Travel Biometrics e = let z : _≡_ {A = ℕ} 1 3 = ap (λ (l : List ℕ). getD l 6 0) e in absurd (omega arith)
+identifier-injective Visa Travel e = let z : _≡_ {A = ℕ} 2 1 = ap (λ (l : List ℕ). getD l 6 0) e in absurd (omega arith)
+identifier-injective Visa Biometrics e = let z : _≡_ {A = ℕ} 2 3 = ap (λ (l : List ℕ). getD l 6 0) e in absurd (omega arith)
+identifier-injective Biometrics Travel e = let z : _≡_ {A = ℕ} 3 1 = ap (λ (l : List ℕ). getD l 6 0) e in absurd (omega arith)
+identifier-injective Biometrics Visa e = let z : _≡_ {A = ℕ} 3 2 = ap (λ (l : List ℕ). getD l 6 0) e in absurd (omega arith)
 
 -- an extension is for one at most
 for-one : (e : Extension) (j k : Known) → isFor j e ≡ true → isFor k e ≡ true → j ≡ k
-for-one e j k f g = other-identifier j k (sym (same-equal (e .identifier) (identifierOf j) f) ∙ same-equal (e .identifier) (identifierOf k) g)
+for-one e j k f g = identifier-injective j k (sym (same-equal (e .identifier) (identifierOf j) f) ∙ same-equal (e .identifier) (identifierOf k) g)
 
 -- so it is not for another
 for-other : (e : Extension) (j k : Known) → (flagOf j ≡ flagOf k → ⊥) → isFor k e ≡ true → isFor j e ≡ false
 for-other e j k n g = by-cases (isFor j e) (λ f. absurd (n (ap flagOf (for-one e j k f g)))) (λ f. f)
 
 -- what an extension is for, or that it is not known
-kind : (e : Extension) → ((k : Known) × (isFor k e ≡ true)) ⊎ ((k : Known) → isFor k e ≡ false)
-kind e =
+known-or-not : (e : Extension) → ((k : Known) × (isFor k e ≡ true)) ⊎ ((k : Known) → isFor k e ≡ false)
+known-or-not e =
     by-cases (isFor Travel e) (λ a. inl (Travel, a))
     (λ a. by-cases (isFor Visa e) (λ b. inl (Visa, b))
     (λ b. by-cases (isFor Biometrics e) (λ c. inl (Biometrics, c)) (λ c. inr (none a b c))))
@@ -124,7 +124,7 @@ is-set true = refl
 is-set false = refl
 
 -- the flag of an extension is set exactly where one of those before has its identifier
-flag-is : (k : Known) (es : List Extension) → eqb (getD (certificateData es) 0 0 / flagOf k % 2) 1 ≡ hasFor k es
+pub flag-is : (k : Known) (es : List Extension) → eqb (getD (certificateData es) 0 0 / flagOf k % 2) 1 ≡ hasFor k es
 unfolding certificateData
 flag-is k es = ap (λ (x : ℕ). eqb x 1) (of k) ∙ is-set (hasFor k es)
   where
@@ -219,9 +219,9 @@ module _ (es : List Extension) (e : Extension) where
             put-biometrics F (F + 4) X Y Z (e .rights) (f Travel) (f Visa) (f Biometrics) (z Biometrics a)
             ∙ simp (a, for-other e Travel Biometrics (λ y. omega arith) a, for-other e Visa Biometrics (λ y. omega arith) a, n Biometrics a) (ap (λ (x : ℕ). x ∷ (X ++ (Y ++ e .rights))) (omega arith))
 
-    -- one in order adds its flag and its rights, and one that is not known adds nothing
-    pub keep-in-order : keeps (certificateData es) e ≡ whole (certificateData (es ++ (e ∷ [])))
-    keep-in-order = ⊎-elim known unknown (kind e)
+    -- one without a fault adds its flag and its rights, and one that is not known adds nothing
+    pub keep-free : keeps (certificateData es) e ≡ whole (certificateData (es ++ (e ∷ [])))
+    keep-free = ⊎-elim known unknown (known-or-not e)
       where
         known : (k : Known) × (isFor k e ≡ true) → keeps (certificateData es) e ≡ whole (certificateData (es ++ (e ∷ [])))
         known x = keeps-known (certificateData es) e (x .0) (x .1) ∙ put-known es e (x .0) (z (x .0) (x .1)) (n (x .0) (x .1)) ∙ ap whole (next-put (x .0) (x .1))
@@ -237,9 +237,9 @@ keep-fault es e w (by-repeat z x m) =
     keeps-known (certificateData es) e (x .0) (x .1)
     ∙ simp (eq-eqb (length (e .rights)) (sizeOf (x .0)) (z (x .0) (x .1)), flag-is (x .0) es ∙ x .2) (rw m refl)
 
--- an extension is in order or has a fault
-pub order-or-fault : (es : List Extension) (e : Extension) → (RightSize e × FirstTime es e) ⊎ ((w : ExtensionFault) × FaultOf es e w)
-order-or-fault es e = ⊎-elim known (λ u. inl ((λ k a. false-true (sym (u k) ∙ a)), (λ k a. false-true (sym (u k) ∙ a)))) (kind e)
+-- an extension has no fault or one
+pub free-or-fault : (es : List Extension) (e : Extension) → (RightSize e × FirstTime es e) ⊎ ((w : ExtensionFault) × FaultOf es e w)
+free-or-fault es e = ⊎-elim known (λ u. inl ((λ k a. false-true (sym (u k) ∙ a)), (λ k a. false-true (sym (u k) ∙ a)))) (known-or-not e)
   where
     known : (k : Known) × (isFor k e ≡ true) → (RightSize e × FirstTime es e) ⊎ ((w : ExtensionFault) × FaultOf es e w)
     known x =

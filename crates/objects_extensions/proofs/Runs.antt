@@ -1,6 +1,6 @@
 -- A run gives the certificate of its extensions, or tells the fault of the first that has one; and each run of bytes is one or the other.
 -- Read before: specs/Faults.antt. Exports `run-end`, `not-whole`, `run-complete`,
--- `certificate-length`, `run-fault`, `run-or-fault`.
+-- `run-filled`, `certificate-length`, `run-fault`, `run-or-fault`.
 use Prim.Native.Nat.{ℕ, zero, suc, _+_, _≤_, _<_}
 use mathlib.Core.Path.{_≡_, refl, sym, ap, _∙_}
 use mathlib.Core.Bool.{true, false}
@@ -23,16 +23,16 @@ use Rattle.objects_reader.specs.declared.head.Head.{Head}
 use Rattle.objects_reader.specs.declared.head.Head.the-variants.{Body, NoTag, NoLength}
 use Rattle.objects_reader.proofs.Heads.{headSize}
 use Rattle.objects_reader.proofs.Unique.{length-tlv, object-head, object-rest}
-use Rattle.objects_reader.proofs.Fitting.{Fitting}
-use Rattle.objects_reader.proofs.Exact.{bytes-drop, bytes-take, all-complete, all-sound}
+use Rattle.objects_reader.proofs.Sayable.{AllSayable}
+use Rattle.objects_reader.proofs.Exact.{bytes-drop, bytes-take, none-left, all-complete, all-sound}
 use Rattle.objects_extensions.specs.declared.Known.the-variants.{Travel, Visa, Biometrics}
 use Rattle.objects_extensions.specs.declared.ExtensionFault.{ExtensionFault}
 use Rattle.objects_extensions.specs.declared.ExtensionFault.the-variants.{Malformed, Twice}
 use Rattle.objects_extensions.specs.declared.RunRead.the-variants.{Faulty}
-use Rattle.objects_extensions.specs.Extensions.{Extension, extensionValue, extensionData, Sayable, runData, rightsFor, certificateData, RightSize, FirstTime, InOrder, RunOf}
-use Rattle.objects_extensions.specs.Faults.{FaultOf, NoExtension, FaultBehind, at-extension, at-bytes, RunFault}
-use Rattle.objects_extensions.specs.Read.{isWhole, RunResult, whole, faulty, onWhole, keeps, extensionForm, extensionOn, onFront, runIn, runOn, blank}
-use Rattle.objects_extensions.proofs.Kept.{Filled, filled-none, filled-next, none-given, keep-in-order, keep-fault, order-or-fault}
+use Rattle.objects_extensions.specs.Extensions.{Extension, extensionValue, extensionData, Sayable, runData, rightsFor, certificateData, RightSize, FirstTime, FaultFree, RunOf}
+use Rattle.objects_extensions.specs.Faults.{FaultOf, NoExtension, RunFault, at-extension, at-bytes}
+use Rattle.objects_extensions.specs.Read.{isWhole, RunResult, whole, faulty, onWhole, keeps, extensionForm, extensionOn, onFront, runIn, runOn, emptyCertificate}
+use Rattle.objects_extensions.proofs.Kept.{Filled, filled-none, filled-next, none-given, keep-free, keep-fault, free-or-fault}
 
 -- ---- one extension
 
@@ -68,12 +68,12 @@ sized : (e : Extension) → Sayable e → Sized extensionForm (values e)
 unfolding Sized Sayable
 sized e h = let l = value-length e in ((omega arith, omega arith, (omega arith, omega arith, tt)), tt)
 
-fitting : (e : Extension) → Sayable e → Fitting extensionForm (values e)
-unfolding Fitting Sayable encode extensionValue
-fitting e h = let l = value-length e in (rw append-nil h, (omega arith, (omega arith, tt)), tt)
+sayable : (e : Extension) → Sayable e → AllSayable extensionForm (values e)
+unfolding AllSayable Sayable encode extensionValue
+sayable e h = let l = value-length e in (rw append-nil h, (omega arith, (omega arith, tt)), tt)
 
 noted-extension : (e : Extension) → Sayable e → Noted (extensionData e) (readAll extensionForm (extensionData e)) (e .identifier ∷ e .rights ∷ [])
-noted-extension e h = rw (encoded e, leaves-are e) at (all-complete extensionForm proper few flat (values e) (sized e h) (fitting e h))
+noted-extension e h = rw (encoded e, leaves-are e) at (all-complete extensionForm proper few flat (values e) (sized e h) (sayable e h))
 
 extension-complete : (c : List ℕ) (e : Extension) → Sayable e → extensionOn c (extensionData e) ≡ keeps c e
 unfolding extensionOn
@@ -85,11 +85,11 @@ extension-complete c e h =
 
 -- what is read clean is the bytes of an extension
 extension-sound : (t : List ℕ) → AllBytes t → isClean ((readAll extensionForm t) .fault) ≡ true → (e : Extension) × Sayable e × (t ≡ extensionData e)
-unfolding Fitting Sayable encode extensionValue
+unfolding AllSayable Sayable encode extensionValue
 extension-sound t b c =
     let o = all-sound extensionForm proper few t b c in
     let e : Extension = record { identifier = o .values .0 .0; rights = o .values .0 .1 .0 } in
-    (e, rw append-nil at (o .fitting .0), o .bytes ∙ encoded e)
+    (e, rw append-nil at (o .sayable .0), o .bytes ∙ encoded e)
 
 -- ---- the extension that stands first
 
@@ -128,10 +128,6 @@ run-next : (k : ℕ) (c : List ℕ) (e : Extension) (b : List ℕ) → Sayable e
 unfolding runIn
 run-next k c e b h =
     simp (ne-eqb (length (extensionData e ++ b)) 0 (let z = front-some e b in omega arith), front-head e b h, front-taken e b, front-left e b, extension-complete c e h)
-
-none-left : (s : List ℕ) → length s ≡ 0 → s ≡ []
-none-left [] e = refl
-none-left (a ∷ s) e = absurd (omega arith)
 
 -- where an extension stands first, the reader finds just it
 front-clean : (e : Extension) (b s : List ℕ) → Sayable e → s ≡ extensionData e ++ b → (start len : ℕ) → headOf 0x73 s ≡ Body start len
@@ -180,16 +176,16 @@ module _ (s : List ℕ) (b : AllBytes s) where
           (λ x. let o = clean-front (start + len) x in absurd (m (o .0) (drop (start + len) s) (o .1) (o .2)))
           (λ x. simp x)
 
--- ---- extensions in order, and what stands behind them
+-- ---- extensions without a fault, and what stands behind them
 
--- behind extensions in order the run goes on with the certificate that they give
+-- behind extensions without a fault the run goes on with the certificate that they give
 record Skipped (k : ℕ) (p es : List Extension) (rest : List ℕ) : Type 0 where
   fuel : ℕ
   enough : length rest ≤ fuel
   same : runIn k (certificateData p) (runData es ++ rest) ≡ runIn fuel (certificateData (p ++ es)) rest
 
-skip : (k : ℕ) (p es : List Extension) (rest : List ℕ) → Filled p → InOrder p es → length (runData es ++ rest) ≤ k → Skipped k p es rest
-unfolding runData InOrder
+skip : (k : ℕ) (p es : List Extension) (rest : List ℕ) → Filled p → FaultFree p es → length (runData es ++ rest) ≤ k → Skipped k p es rest
+unfolding runData FaultFree
 skip k p [] rest f o h = record { fuel = k; enough = h; same = rw append-nil refl }
 skip zero p (e ∷ es) rest f o h = let z = front-some e (runData es ++ rest) in let q = ap length (append-assoc (extensionData e) (runData es) rest) in absurd (omega arith)
 skip (suc k) p (e ∷ es) rest f o h =
@@ -201,28 +197,31 @@ skip (suc k) p (e ∷ es) rest f o h =
       enough = r .enough;
       same = ap (runIn (suc k) (certificateData p)) q
           ∙ run-next k (certificateData p) e (runData es ++ rest) (o .0)
-          ∙ rw (keep-in-order p e f (o .1) (o .2)) (r .same ∙ ap (λ (x : List Extension). runIn (r .fuel) (certificateData x) rest) (append-assoc p (e ∷ []) es));
+          ∙ rw (keep-free p e f (o .1) (o .2)) (r .same ∙ ap (λ (x : List Extension). runIn (r .fuel) (certificateData x) rest) (append-assoc p (e ∷ []) es));
     }
 
--- a run of extensions in order gives their certificate
-pub run-complete : (es : List Extension) (s : List ℕ) → RunOf es s → runOn blank s ≡ whole (certificateData es)
+-- a run of extensions without a fault gives their certificate
+pub run-complete : (es : List Extension) (s : List ℕ) → RunOf es s → runOn emptyCertificate s ≡ whole (certificateData es)
 unfolding runOn
 run-complete es s w =
     let q : s ≡ runData es ++ [] = w .written ∙ sym (append-nil (runData es)) in
     let l = ap length q in
-    let r = skip (length s) [] es [] filled-none (w .in-order) (omega arith) in
-    ap (runIn (length s) blank) q ∙ rw (← none-given) (r .same) ∙ run-end (r .fuel) (certificateData es)
+    let r = skip (length s) [] es [] filled-none (w .fault-free) (omega arith) in
+    ap (runIn (length s) emptyCertificate) q ∙ rw (← none-given) (r .same) ∙ run-end (r .fuel) (certificateData es)
 
 -- and that has 20 bytes
-filled-all : (p es : List Extension) → Filled p → InOrder p es → Filled (p ++ es)
-unfolding InOrder
+filled-all : (p es : List Extension) → Filled p → FaultFree p es → Filled (p ++ es)
+unfolding FaultFree
 filled-all p [] f o = rw append-nil f
 filled-all p (e ∷ es) f o = rw append-assoc at (filled-all (p ++ (e ∷ [])) es (filled-next p e f (o .1) (o .2)) (o .3))
+
+pub run-filled : (es : List Extension) (s : List ℕ) → RunOf es s → Filled es
+run-filled es s w = filled-all [] es filled-none (w .fault-free)
 
 pub certificate-length : (es : List Extension) (s : List ℕ) → RunOf es s → length (certificateData es) ≡ 20
 unfolding certificateData
 certificate-length es s w =
-    let f = filled-all [] es filled-none (w .in-order) in
+    let f = run-filled es s w in
     let l = length-append (rightsFor Visa es) (rightsFor Biometrics es) in
     let m = length-append (rightsFor Travel es) (rightsFor Visa es ++ rightsFor Biometrics es) in
     omega (arith, f Travel, f Visa, f Biometrics)
@@ -243,52 +242,63 @@ stop-here zero c s b h n m = absurd (n (none-left s (omega arith)))
 stop-here (suc k) c s b h n m = run-broken s b k c (λ e. n (none-left s e)) m
 
 -- a run with a fault tells it
-pub run-fault : (s : List ℕ) (w : ExtensionFault) → AllBytes s → RunFault s w → (runOn blank s) .read ≡ Faulty w
+pub run-fault : (s : List ℕ) (w : ExtensionFault) → AllBytes s → RunFault s w → (runOn emptyCertificate s) .read ≡ Faulty w
 unfolding runOn
 run-fault s w b (at-extension es e rest o z q f) =
     let l = ap length q in
     let r = skip (length s) [] es (extensionData e ++ rest) filled-none o (omega arith) in
-    ap (λ (x : RunResult). x .read) (ap (runIn (length s) blank) q ∙ rw (← none-given) (r .same) ∙ stop-at (r .fuel) es e rest w (r .enough) z f)
+    ap (λ (x : RunResult). x .read) (ap (runIn (length s) emptyCertificate) q ∙ rw (← none-given) (r .same) ∙ stop-at (r .fuel) es e rest w (r .enough) z f)
 run-fault s w b (at-bytes es rest o q n m i) =
     let l = ap length q in
     let r = skip (length s) [] es rest filled-none o (omega arith) in
     let c : AllBytes rest = rw (q, drop-at (runData es) rest (length (runData es)) refl) at (bytes-drop (length (runData es)) s b) in
-    ap (λ (x : RunResult). x .read) (ap (runIn (length s) blank) q ∙ rw (← none-given) (r .same) ∙ stop-here (r .fuel) (certificateData es) rest c (r .enough) n m) ∙ ap Faulty (sym i)
+    ap (λ (x : RunResult). x .read) (ap (runIn (length s) emptyCertificate) q ∙ rw (← none-given) (r .same) ∙ stop-here (r .fuel) (certificateData es) rest c (r .enough) n m) ∙ ap Faulty (sym i)
 
 -- ---- one or the other
 
--- a fault behind an extension in order is one behind those before it
+-- a fault behind extensions without one, of which those of p come before s
+data FaultBehind (p : List Extension) (s : List ℕ) (w : ExtensionFault) : Type 0 where
+  behind-extension : (es : List Extension) (e : Extension) (rest : List ℕ)
+      → FaultFree p es → Sayable e → s ≡ runData es ++ (extensionData e ++ rest) → FaultOf (p ++ es) e w → FaultBehind p s w
+  behind-bytes : (es : List Extension) (rest : List ℕ)
+      → FaultFree p es → s ≡ runData es ++ rest → (rest ≡ [] → ⊥) → NoExtension rest → w ≡ Malformed → FaultBehind p s w
+
+of-behind : (s : List ℕ) (w : ExtensionFault) → FaultBehind [] s w → RunFault s w
+of-behind s w (behind-extension es e rest o z q f) = at-extension es e rest o z q f
+of-behind s w (behind-bytes es rest o q n m i) = at-bytes es rest o q n m i
+
+-- a fault behind an extension without one is one behind those before it
 fault-next : (p : List Extension) (e : Extension) (s rest : List ℕ) (w : ExtensionFault) → Sayable e → RightSize e → FirstTime p e → s ≡ extensionData e ++ rest
     → FaultBehind (p ++ (e ∷ [])) rest w → FaultBehind p s w
-unfolding runData InOrder
-fault-next p e s rest w z a n q (at-extension es x r o y v f) =
-    at-extension (e ∷ es) x r (z, a, n, o) y
+unfolding runData FaultFree
+fault-next p e s rest w z a n q (behind-extension es x r o y v f) =
+    behind-extension (e ∷ es) x r (z, a, n, o) y
     (q ∙ ap (λ (l : List ℕ). extensionData e ++ l) v ∙ sym (append-assoc (extensionData e) (runData es) (extensionData x ++ r)))
     (rw append-assoc at f)
-fault-next p e s rest w z a n q (at-bytes es r o v m y i) =
-    at-bytes (e ∷ es) r (z, a, n, o) (q ∙ ap (λ (l : List ℕ). extensionData e ++ l) v ∙ sym (append-assoc (extensionData e) (runData es) r)) m y i
+fault-next p e s rest w z a n q (behind-bytes es r o v m y i) =
+    behind-bytes (e ∷ es) r (z, a, n, o) (q ∙ ap (λ (l : List ℕ). extensionData e ++ l) v ∙ sym (append-assoc (extensionData e) (runData es) r)) m y i
 
 abbrev Decided : List Extension → List ℕ → Type 0
-Decided p s = ((es : List Extension) × InOrder p es × (s ≡ runData es)) ⊎ ((w : ExtensionFault) × FaultBehind p s w)
+Decided p s = ((es : List Extension) × FaultFree p es × (s ≡ runData es)) ⊎ ((w : ExtensionFault) × FaultBehind p s w)
 
 decided-none : (p : List Extension) → Decided p []
-unfolding runData InOrder
+unfolding runData FaultFree
 decided-none p = inl ([], tt, refl)
 
 module _ (p : List Extension) (e : Extension) (s rest : List ℕ) (z : Sayable e) (q : s ≡ extensionData e ++ rest) where
   decided-fault : (w : ExtensionFault) × FaultOf p e w → Decided p s
-  unfolding runData InOrder
-  decided-fault f = inr (f .0, at-extension [] e rest tt z q (rw append-nil (f .1)))
+  unfolding runData FaultFree
+  decided-fault f = inr (f .0, behind-extension [] e rest tt z q (rw append-nil (f .1)))
 
   decided-next : RightSize e × FirstTime p e → Decided (p ++ (e ∷ [])) rest → Decided p s
-  unfolding runData InOrder
+  unfolding runData FaultFree
   decided-next o (inl x) = inl (e ∷ x .0, (z, o .0, o .1, x .1), q ∙ ap (λ (l : List ℕ). extensionData e ++ l) (x .2))
   decided-next o (inr x) = inr (x .0, fault-next p e s rest (x .0) z (o .0) (o .1) q (x .1))
 
 decided-broken : (p : List Extension) (s : List ℕ) → NoExtension s → Decided p s
-unfolding runData InOrder
+unfolding runData FaultFree
 decided-broken p [] m = decided-none p
-decided-broken p (a ∷ s) m = inr (Malformed, at-bytes [] (a ∷ s) tt refl (λ e. let l = ap length e in omega arith) m refl)
+decided-broken p (a ∷ s) m = inr (Malformed, behind-bytes [] (a ∷ s) tt refl (λ e. let l = ap length e in omega arith) m refl)
 
 decide : (k : ℕ) (p : List Extension) (s : List ℕ) → AllBytes s → length s ≤ k → Decided p s
 decide zero p s b h = rw (none-left s (omega arith)) (decided-none p)
@@ -301,10 +311,10 @@ decide (suc k) p s b h =
     ⊎-elim
     (λ o. decided-next p (x .0) s (x .1) (x .2) (x .3) o (decide k (p ++ (x .0 ∷ [])) (x .1) c (front-less (x .0) (x .1) k (omega arith))))
     (decided-fault p (x .0) s (x .1) (x .2) (x .3))
-    (order-or-fault p (x .0)))
+    (free-or-fault p (x .0)))
     (decided-broken p s)
     (begins s b)
 
--- bytes are a run of extensions in order, or have a fault
+-- bytes are a run of extensions without a fault, or have one
 pub run-or-fault : (s : List ℕ) → AllBytes s → ((es : List Extension) × RunOf es s) ⊎ ((w : ExtensionFault) × RunFault s w)
-run-or-fault s b = ⊎-elim (λ x. inl (x .0, record { in-order = x .1; written = x .2 })) (λ x. inr x) (decide (length s) [] s b (omega arith))
+run-or-fault s b = ⊎-elim (λ x. inl (x .0, record { fault-free = x .1; written = x .2 })) (λ x. inr (x .0, of-behind s (x .0) (x .1))) (decide (length s) [] s b (omega arith))

@@ -7,7 +7,7 @@ use native.Mathlib.Omega.{arith}
 use lib.ListN.{length, getD, take, drop, length-drop, drop-of-length-le}
 use lib.Seq.{drop-drop}
 use lib.Dec.{ltb, eqb}
-use borrow.Author.Tests.{eq-eqb, ne-eqb}
+use borrow.Author.Tests.{ne-eqb, eqb-false}
 use Rattle.base.specs.Choice.{ifElse}
 use Rattle.base.specs.Bytes.{sameBytes, part, put}
 use Rattle.base.proofs.Cases.{ifElse-ind, flag-refused, flag-accepted}
@@ -30,12 +30,12 @@ use Rattle.objects_extensions.proofs.Runs.{not-whole, run-end}
 
 -- the answer n and the bytes d are those of r
 abbrev pub Gave : RunResult → RunRead → List ℕ → Type 0
-Gave r n d = (n ≡ r .read) × (d ≡ r .certificate)
+Gave r n d = (n ≡ r .read) × (d ≡ r .bytes)
 
-pub gave : {r : RunResult} {n : RunRead} {d : List ℕ} → r ≡ record { read = n; certificate = d } → Gave r n d
-gave e = (sym (ap (λ (q : RunResult). q .read) e), sym (ap (λ (q : RunResult). q .certificate) e))
+pub gave : {r : RunResult} {n : RunRead} {d : List ℕ} → r ≡ record { read = n; bytes = d } → Gave r n d
+gave e = (sym (ap (λ (q : RunResult). q .read) e), sym (ap (λ (q : RunResult). q .bytes) e))
 
-pub of-gave : {r : RunResult} {n : RunRead} {d : List ℕ} → Gave r n d → r ≡ record { read = n; certificate = d }
+pub of-gave : {r : RunResult} {n : RunRead} {d : List ℕ} → Gave r n d → r ≡ record { read = n; bytes = d }
 of-gave {r} {n} {d} g = let a = g .0 in let b = g .1 in rw (a, b) refl
 
 -- ---- tests
@@ -66,25 +66,28 @@ module _ (k : Known) {y : ℕ} (e : y ≡ flagOf k) where
   pub flag-divides : 0 < y
   flag-divides = rw e (flag-some k)
 
-  pub flag-added : {x z : ℕ} → z ≡ flagOf k → x < 256 → (x / y % 2 ≡ 1 → ⊥) → x + z < 256
-  flag-added {x} i h n = rw i (flag-fits k x h (rw e at n))
+  pub flag-added : {x z : ℕ} → z ≡ flagOf k → x < 256 → eqb (x / y % 2) 1 ≡ false → x + z < 256
+  flag-added {x} i h n = rw i (flag-fits k x h (rw e at (eqb-false (x / y % 2) 1 n)))
 
 module _ (k : Known) (c v : List ℕ) {n : ℕ} (e : n ≡ sizeOf k) where
-  pub keep-size : (length v ≡ n → ⊥) → keepsKnown k c v ≡ faulty Malformed c
+  same-size : eqb (length v) n ≡ eqb (length v) (sizeOf k)
+  same-size = ap (eqb (length v)) e
+
+  pub keep-size : not (eqb (length v) n) ≡ true → keepsKnown k c v ≡ faulty Malformed c
   unfolding keepsKnown
-  keep-size h = simp (ne-eqb (length v) (sizeOf k) (rw e at h))
+  keep-size h = simp (flag-refused same-size h)
 
-  module _ (h : length v ≡ n) {x y : ℕ} (i : x ≡ getD c 0 0) (f : y ≡ flagOf k) where
-    sized : eqb (length v) (sizeOf k) ≡ true
-    sized = eq-eqb (length v) (sizeOf k) (h ∙ e)
+  module _ (h : not (eqb (length v) n) ≡ false) {x y : ℕ} (i : x ≡ getD c 0 0) (f : y ≡ flagOf k) where
+    same-flag : eqb (getD c 0 0 / flagOf k % 2) 1 ≡ eqb (x / y % 2) 1
+    same-flag = rw (i, f) refl
 
-    pub keep-twice : x / y % 2 ≡ 1 → keepsKnown k c v ≡ faulty Twice c
+    pub keep-twice : eqb (x / y % 2) 1 ≡ true → keepsKnown k c v ≡ faulty Twice c
     unfolding keepsKnown
-    keep-twice j = simp (sized, eq-eqb (getD c 0 0 / flagOf k % 2) 1 (rw (← i, ← f) j))
+    keep-twice j = simp (flag-accepted same-size h, same-flag ∙ j)
 
-    pub keep-put : {z p : ℕ} {d g : List ℕ} → (x / y % 2 ≡ 1 → ⊥) → z ≡ flagOf k → d ≡ put c 0 ((x + z) ∷ []) → p ≡ rightsPlace k → g ≡ put d p v → keepsKnown k c v ≡ whole g
+    pub keep-put : {z p : ℕ} {d g : List ℕ} → eqb (x / y % 2) 1 ≡ false → z ≡ flagOf k → d ≡ put c 0 ((x + z) ∷ []) → p ≡ rightsPlace k → g ≡ put d p v → keepsKnown k c v ≡ whole g
     unfolding keepsKnown
-    keep-put j m a q b = simp (sized, ne-eqb (getD c 0 0 / flagOf k % 2) 1 (rw (← i, ← f) j)) (rw (b, q, a, m, i) refl)
+    keep-put j m a q b = simp (flag-accepted same-size h, same-flag ∙ j) (rw (b, q, a, m, i) refl)
 
 -- ---- any extension
 
@@ -200,10 +203,10 @@ module _ {c₀ s c : List ℕ} {at : ℕ} (w : Walking c₀ s c at) (h : at < le
     front-same = turn .same ∙ rw (front-is ∙ e) refl
 
     module _ {p d : List ℕ} {n : RunRead} (ep : p ≡ part l 0 (start + len)) (g : Gave (extensionOn c p) n d) {t : Bool} (et : t ≡ isWhole n) where
-      extension-is : extensionOn c (part (drop at s) 0 (start + len)) ≡ record { read = n; certificate = d }
+      extension-is : extensionOn c (part (drop at s) 0 (start + len)) ≡ record { read = n; bytes = d }
       extension-is = rw (← rest-is, ← ep) (of-gave g)
 
-      pub walk-stop : not t ≡ true → runOn c₀ s ≡ record { read = n; certificate = d }
+      pub walk-stop : not t ≡ true → runOn c₀ s ≡ record { read = n; bytes = d }
       walk-stop z = front-same ∙ rw extension-is (simp (flag-refused et z))
 
       pub walk-next : not t ≡ false → Walking c₀ s d (at + start + len)

@@ -11,7 +11,7 @@ use Rattle.objects_extensions.specs.declared.ExtensionFault.the-variants
 use Rattle.objects_extensions.specs.declared.RunRead.the-variants.{Whole, Faulty}
 use Rattle.objects_extensions.specs.declared.RightsRead.the-variants.{Told, ShortBuffer}
 use Rattle.objects_extensions.specs.Extensions.{Extension, extensionValue, extensionData, runData}
-use Rattle.objects_extensions.specs.Read.{whole, keepsKnown, keeps, extensionOn, runIn, runOn, blank, chainOf, chainData, readRights, readRightsInto}
+use Rattle.objects_extensions.specs.Read.{whole, keepsKnown, keeps, extensionOn, runIn, runOn, emptyCertificate, runsOn, chainData, readRights, readRightsInto}
 
 -- the bytes of a certificate's extension for travel, as they would stand in it
 abbrev travel : List ℕ
@@ -38,48 +38,48 @@ unfolding runData extensionData extensionValue tlv tagBytes lengthBytes
 writings = refl
 
 -- in another order, with one among them that is not known
-three : runOn blank (biometrics ++ (unknown ++ (visa ++ travel))) ≡ whole (0x07 ∷ 0x0F ∷ 0x05 ∷ replicate 17 0xC3)
+three : runOn emptyCertificate (biometrics ++ (unknown ++ (visa ++ travel))) ≡ whole (0x07 ∷ 0x0F ∷ 0x05 ∷ replicate 17 0xC3)
 unfolding runOn runIn extensionOn readForm headOf lengthOf keeps keepsKnown sameBytes put putFits
 three = refl
 
 -- what is absent is zero
-one : runOn blank visa ≡ whole (0x02 ∷ 0x00 ∷ 0x05 ∷ replicate 17 0x00)
+one : runOn emptyCertificate visa ≡ whole (0x02 ∷ 0x00 ∷ 0x05 ∷ replicate 17 0x00)
 unfolding runOn runIn extensionOn readForm headOf lengthOf keeps keepsKnown sameBytes put putFits
 one = refl
 
-none : runOn blank [] ≡ whole (replicate 20 0x00)
+none : runOn emptyCertificate [] ≡ whole (replicate 20 0x00)
 unfolding runOn runIn
 none = refl
 
 -- a known one for the second time, with others between
-twice : runOn blank (travel ++ (unknown ++ travel)) .read ≡ Faulty Twice
+twice : runOn emptyCertificate (travel ++ (unknown ++ travel)) .read ≡ Faulty Twice
 unfolding runOn runIn extensionOn readForm headOf lengthOf keeps keepsKnown sameBytes put putFits
 twice = refl
 
 -- both faults at one extension: the size is told
-both : runOn blank (travel ++ long) .read ≡ Faulty Malformed
+both : runOn emptyCertificate (travel ++ long) .read ≡ Faulty Malformed
 unfolding runOn runIn extensionOn readForm headOf lengthOf keeps keepsKnown sameBytes put putFits
 both = refl
 
 -- the earlier extension is told
-earlier : runOn blank (travel ++ (travel ++ long)) .read ≡ Faulty Twice
+earlier : runOn emptyCertificate (travel ++ (travel ++ long)) .read ≡ Faulty Twice
 unfolding runOn runIn extensionOn readForm headOf lengthOf keeps keepsKnown sameBytes put putFits
 earlier = refl
 
 -- a byte behind the last
-surplus : runOn blank (travel ++ (0x73 ∷ [])) .read ≡ Faulty Malformed
+surplus : runOn emptyCertificate (travel ++ (0x73 ∷ [])) .read ≡ Faulty Malformed
 unfolding runOn runIn extensionOn readForm headOf lengthOf keeps keepsKnown sameBytes put putFits
 surplus = refl
 
 -- the second run is faulty: 60 zeros, though the first has rights, and the bytes behind them stay
 refused : (readRights travel long [] (replicate 62 0xA5) ≡ Told (Faulty Malformed)) × (readRightsInto travel long [] (replicate 62 0xA5) ≡ replicate 60 0x00 ++ replicate 2 0xA5)
-unfolding readRights readRightsInto chainOf chainData runOn runIn extensionOn readForm headOf lengthOf keeps keepsKnown sameBytes put putFits
+unfolding readRights readRightsInto runsOn chainData runOn runIn extensionOn readForm headOf lengthOf keeps keepsKnown sameBytes put putFits
 refused = (refl, refl)
 
 -- three certificates, one of them without extensions
 accepted : (readRights travel [] visa (replicate 60 0xA5) ≡ Told Whole)
     × (readRightsInto travel [] visa (replicate 60 0xA5) ≡ 0x01 ∷ 0x0F ∷ replicate 38 0x00 ++ (0x02 ∷ 0x00 ∷ 0x05 ∷ replicate 17 0x00))
-unfolding readRights readRightsInto chainOf chainData runOn runIn extensionOn readForm headOf lengthOf keeps keepsKnown sameBytes put putFits
+unfolding readRights readRightsInto runsOn chainData runOn runIn extensionOn readForm headOf lengthOf keeps keepsKnown sameBytes put putFits
 accepted = (refl, refl)
 
 -- a buffer of 59 bytes

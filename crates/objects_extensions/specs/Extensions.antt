@@ -12,7 +12,7 @@ use Rattle.objects_extensions.specs.declared.Known.the-variants.{Travel,
 
 -- ---- extensions and their bytes
 
--- [CE1]
+-- an extension: its identifier and its rights [CE1]
 pub record Extension : Type 0 where
   pub identifier : List ℕ
   pub rights : List ℕ
@@ -25,7 +25,7 @@ extensionValue e = tlv 0x06 (e .identifier) ++ tlv 0x53 (e .rights)
 unfoldable pub extensionData : Extension → List ℕ
 extensionData e = tlv 0x73 (extensionValue e)
 
--- an extension that has bytes: a length can say how long the value of `73` is [CE1] [D2]
+-- the value of `73` has at most 65,535 bytes, the most that a length can say [CE1] [D2]
 unfoldable pub Sayable : Extension → Type 0
 Sayable e = length (extensionValue e) < 65536
 
@@ -70,7 +70,7 @@ unfoldable pub rightsFor : Known → List Extension → List ℕ
 rightsFor k [] = replicate (sizeOf k) 0
 rightsFor k (e ∷ es) = ifElse (isFor k e) (e .rights) (rightsFor k es)
 
--- [CE5]
+-- its flag where one has it, else 0 [CE5]
 abbrev pub flagFor : Known → List Extension → ℕ
 flagFor k es = ifElse (hasFor k es) (flagOf k) 0
 
@@ -79,7 +79,7 @@ unfoldable pub certificateData : List Extension → List ℕ
 certificateData es =
     (flagFor Travel es + flagFor Visa es + flagFor Biometrics es) ∷ (rightsFor Travel es ++ (rightsFor Visa es ++ rightsFor Biometrics es))
 
--- ---- extensions in order
+-- ---- extensions without a fault
 
 -- where it is known, its rights have the right size [CE4]
 abbrev pub RightSize : Extension → Type 0
@@ -89,17 +89,18 @@ RightSize e = (k : Known) → isFor k e ≡ true → length (e .rights) ≡ size
 abbrev pub FirstTime : List Extension → Extension → Type 0
 FirstTime before e = (k : Known) → isFor k e ≡ true → hasFor k before ≡ false
 
--- each of es is in order, behind those before it [CE6]
-unfoldable pub InOrder : List Extension → List Extension → Type 0
-InOrder before [] = Unit {0}
-InOrder before (e ∷ es) = Sayable e × RightSize e × FirstTime before e × InOrder (before ++ (e ∷ [])) es
+-- each of es is without a fault behind those before it: a length can say it, and where it is known its rights have their size and it is not
+-- there already [CE6]
+unfoldable pub FaultFree : List Extension → List Extension → Type 0
+FaultFree before [] = Unit {0}
+FaultFree before (e ∷ es) = Sayable e × RightSize e × FirstTime before e × FaultFree (before ++ (e ∷ [])) es
 
--- the bytes s are a run of these extensions, and all of them are in order [CE2] [CE6]
+-- the bytes s are a run of these extensions, and none of them has a fault [CE2] [CE6]
 pub record RunOf (es : List Extension) (s : List ℕ) : Type 0 where
-  pub in-order : InOrder [] es
+  pub fault-free : FaultFree [] es
   pub written : s ≡ runData es
 
--- three runs of extensions in order [CE7]
+-- three such runs [CE7]
 pub record RunsOf (a b c : List Extension) (first second third : List ℕ) : Type 0 where
   pub is-first : RunOf a first
   pub is-second : RunOf b second

@@ -7,7 +7,7 @@ use lib.ListN.{length}
 use Rattle.objects_extensions.specs.declared.Known.{Known}
 use Rattle.objects_extensions.specs.declared.ExtensionFault.{ExtensionFault}
 use Rattle.objects_extensions.specs.declared.ExtensionFault.the-variants.{Malformed, Twice}
-use Rattle.objects_extensions.specs.Extensions.{Extension, extensionData, Sayable, runData, sizeOf, isFor, hasFor, RightSize, InOrder, RunOf}
+use Rattle.objects_extensions.specs.Extensions.{Extension, extensionData, Sayable, runData, sizeOf, isFor, hasFor, RightSize, FaultFree, RunOf}
 
 -- the number of a fault: 7 for bad nesting or size, 8 for a known one for the second time [CE8] [C2]
 abbrev pub extensionFaultNumber : ExtensionFault → ℕ
@@ -31,16 +31,12 @@ pub data FaultOf (before : List Extension) (e : Extension) (w : ExtensionFault) 
 abbrev pub NoExtension : List ℕ → Type 0
 NoExtension s = (e : Extension) (rest : List ℕ) → Sayable e → s ≡ extensionData e ++ rest → ⊥
 
--- behind extensions in order stands one with this fault, or stand bytes that begin with none [CE8]
-pub data FaultBehind (before : List Extension) (s : List ℕ) (w : ExtensionFault) : Type 0 where
+-- the run s has this fault: behind extensions without one stands an extension that has it, or stand bytes that begin with none [CE8]
+pub data RunFault (s : List ℕ) (w : ExtensionFault) : Type 0 where
   at-extension : (es : List Extension) (e : Extension) (rest : List ℕ)
-      → InOrder before es → Sayable e → s ≡ runData es ++ (extensionData e ++ rest) → FaultOf (before ++ es) e w → FaultBehind before s w
+      → FaultFree [] es → Sayable e → s ≡ runData es ++ (extensionData e ++ rest) → FaultOf es e w → RunFault s w
   at-bytes : (es : List Extension) (rest : List ℕ)
-      → InOrder before es → s ≡ runData es ++ rest → (rest ≡ [] → ⊥) → NoExtension rest → w ≡ Malformed → FaultBehind before s w
-
--- the run s has this fault [CE8]
-abbrev pub RunFault : List ℕ → ExtensionFault → Type 0
-RunFault s w = FaultBehind [] s w
+      → FaultFree [] es → s ≡ runData es ++ rest → (rest ≡ [] → ⊥) → NoExtension rest → w ≡ Malformed → RunFault s w
 
 -- three runs have this fault: it is that of the first that has one [CE9]
 pub data ChainFault (first second third : List ℕ) (w : ExtensionFault) : Type 0 where

@@ -1,4 +1,4 @@
--- What reading the rights of three runs answers, and what it writes: along the extensions, upon the 20 bytes of a certificate.
+-- What reading the rights of three runs answers, and what it writes: one extension after the other, into the 20 bytes of a certificate.
 use Prim.Native.Nat.{ℕ, zero, suc, _+_, _/_, _%_}
 use mathlib.Core.Bool.{Bool}
 use mathlib.Core.List.{List, [], _∷_, _++_}
@@ -31,22 +31,22 @@ runNumber (Faulty w) = extensionFaultNumber w
 abbrev pub isWhole : RunRead → Bool
 isWhole r = eqb (runNumber r) 0
 
--- what comes of extensions, and a certificate's bytes then: those before the fault, where there is one [CE5] [CE8]
+-- what comes of extensions, and the bytes that they gave so far: the 20 of a certificate, or of three runs without a fault all 60 [CE5] [CE8]
 pub record RunResult : Type 0 where
   pub read : RunRead
-  pub certificate : List ℕ
+  pub bytes : List ℕ
 
--- [CE5]
+-- no fault yet [CE5]
 abbrev pub whole : List ℕ → RunResult
-whole c = record { read = Whole; certificate = c }
+whole c = record { read = Whole; bytes = c }
 
--- [CE8]
+-- a fault, and the bytes before it [CE8]
 abbrev pub faulty : ExtensionFault → List ℕ → RunResult
-faulty w c = record { read = Faulty w; certificate = c }
+faulty w c = record { read = Faulty w; bytes = c }
 
 -- what follows, where there is no fault yet [CE8]
 abbrev pub onWhole : RunResult → (List ℕ → RunResult) → RunResult
-onWhole r go = ifElse (isWhole (r .read)) (go (r .certificate)) r
+onWhole r go = ifElse (isWhole (r .read)) (go (r .bytes)) r
 
 -- ---- one extension
 
@@ -56,7 +56,7 @@ rightsPlace Travel = 1
 rightsPlace Visa = 2
 rightsPlace Biometrics = 3
 
--- a known one upon a certificate's bytes: its size, then whether its flag is set already; else its flag and its rights are put there
+-- a known one, put into a certificate's bytes: first its size is tested, then whether its flag is set already; else flag and rights are put
 -- [CE4] [CE5] [CE6] [CE8]
 unfoldable pub keepsKnown : Known → List ℕ → List ℕ → RunResult
 keepsKnown k c v =
@@ -65,7 +65,7 @@ keepsKnown k c v =
     (ifElse (eqb (flags / flagOf k % 2) 1) (faulty Twice c) (whole (put (put c 0 ((flags + flagOf k) ∷ [])) (rightsPlace k) v)))
     (faulty Malformed c)
 
--- an extension upon a certificate's bytes; one that is not known changes nothing [CE3]
+-- any extension, put into a certificate's bytes; one that is not known changes nothing [CE3]
 unfoldable pub keeps : List ℕ → Extension → RunResult
 keeps c e =
     ifElse (isFor Travel e) (keepsKnown Travel c (e .rights))
@@ -73,7 +73,7 @@ keeps c e =
     (ifElse (isFor Biometrics e) (keepsKnown Biometrics c (e .rights))
     (whole c)))
 
--- [CE1]
+-- `73` with `06` and then `53`, of any size [CE1]
 abbrev pub extensionForm : Form
 extensionForm = nested 0x73 (plain 0x06 0 65535 (plain 0x53 0 65535 done)) done
 
@@ -85,7 +85,7 @@ extensionAt t q =
       rights = part t (getD (q .starts) 1 0) (getD (q .lens) 1 0);
     }
 
--- the bytes t of an extension upon a certificate's bytes [CE1] [CE8]
+-- the bytes t of an extension, put into a certificate's bytes [CE1] [CE8]
 unfoldable pub extensionOn : List ℕ → List ℕ → RunResult
 extensionOn c t = let q = readAll extensionForm t in ifElse (isClean (q .fault)) (keeps c (extensionAt t q)) (faulty Malformed c)
 
@@ -97,7 +97,7 @@ onFront (Body start len) go bad = go start len
 onFront NoTag go bad = bad
 onFront NoLength go bad = bad
 
--- at most k extensions of the run s upon a certificate's bytes [CE2] [CE8]
+-- at most k extensions of the run s, put into a certificate's bytes [CE2] [CE8]
 unfoldable pub runIn : ℕ → List ℕ → List ℕ → RunResult
 runIn zero c s = whole c
 runIn (suc k) c s =
@@ -111,22 +111,22 @@ unfoldable pub runOn : List ℕ → List ℕ → RunResult
 runOn c s = runIn (length s) c s
 
 -- a certificate's bytes before any extension [CE5]
-abbrev pub blank : List ℕ
-blank = replicate 20 0
+abbrev pub emptyCertificate : List ℕ
+emptyCertificate = replicate 20 0
 
 -- three runs, one for each certificate, up to the first fault [CE7] [CE9]
-unfoldable pub chainOf : List ℕ → List ℕ → List ℕ → RunResult
-chainOf first second third =
-    onWhole (runOn blank first) (λ a. onWhole (runOn blank second) (λ b. onWhole (runOn blank third) (λ c. whole (a ++ (b ++ c)))))
+unfoldable pub runsOn : List ℕ → List ℕ → List ℕ → RunResult
+runsOn first second third =
+    onWhole (runOn emptyCertificate first) (λ a. onWhole (runOn emptyCertificate second) (λ b. onWhole (runOn emptyCertificate third) (λ c. whole (a ++ (b ++ c)))))
 
 -- the 60 bytes, zeros where there is a fault [CE7] [CE9]
 unfoldable pub chainData : RunResult → List ℕ
-chainData r = ifElse (isWhole (r .read)) (r .certificate) (replicate 60 0)
+chainData r = ifElse (isWhole (r .read)) (r .bytes) (replicate 60 0)
 
 -- what is answered, where the buffer has 60 bytes [CE10]
 unfoldable pub readRights : List ℕ → List ℕ → List ℕ → List ℕ → RightsRead
-readRights first second third buf = ifElse (ltb (length buf) 60) ShortBuffer (Told (chainOf first second third .read))
+readRights first second third buf = ifElse (ltb (length buf) 60) ShortBuffer (Told (runsOn first second third .read))
 
 -- and the buffer afterwards [CE7] [CE9] [CE10]
 unfoldable pub readRightsInto : List ℕ → List ℕ → List ℕ → List ℕ → List ℕ
-readRightsInto first second third buf = ifElse (ltb (length buf) 60) buf (put buf 0 (chainData (chainOf first second third)))
+readRightsInto first second third buf = ifElse (ltb (length buf) 60) buf (put buf 0 (chainData (runsOn first second third)))

@@ -1,5 +1,6 @@
 // The rights that certificate extensions give: a run of extensions for each of three certificates, and the 60 bytes that an opening takes.
-// A run is walked once, upon the 20 bytes of its certificate. Their first, the flags, tells which known extensions were there already.
+// A run is walked once. What it gives is put into the 20 bytes of its certificate. The first of these, the flags, tells which known
+// extensions were there already.
 ghost use mathlib.Core.Path.{_≡_};
 ghost use lib.ListN.{replicate};
 ghost use Rattle.base.specs.Bytes.{sameBytes, put as putAt};
@@ -118,13 +119,15 @@ fn is_whole(r: RunRead) -> bool
 
 // Puts the rights of a known extension among a certificate's bytes, which stay where it has a fault.
 fn keep_known(k: Known, v: &[u8], c: &mut [u8]) -> RunRead
-    ensures { λ r. ⌜ (r ≡ keepsKnown k (now (c .entry)) (now (v .entry)) .read) × (now (c .exit) ≡ keepsKnown k (now (c .entry)) (now (v .entry)) .certificate) ⌝ }
+    ensures { λ r. ⌜ (r ≡ keepsKnown k (now (c .entry)) (now (v .entry)) .read) × (now (c .exit) ≡ keepsKnown k (now (c .entry)) (now (v .entry)) .bytes) ⌝ }
 {
-    if v.len() != size(k) {
-        return RunRead::Faulty(ExtensionFault::Malformed);
-    }
     let flags = byte(c, 0);
-    if flags / flag(k) % 2 == 1 {
+    let other_size = v.len() != size(k);
+    let there = flags / flag(k) % 2 == 1;
+    if other_size {
+        return RunRead::Faulty(ExtensionFault::Malformed); // 7 comes before 8
+    }
+    if there {
         return RunRead::Faulty(ExtensionFault::Twice);
     }
     let marked = [(flags + flag(k)) as u8];
@@ -135,7 +138,7 @@ fn keep_known(k: Known, v: &[u8], c: &mut [u8]) -> RunRead
 
 // The same for any extension, by its identifier and its rights. One that is not known changes nothing.
 fn keep(id: &[u8], v: &[u8], c: &mut [u8]) -> RunRead
-    ensures { λ r. ⌜ (r ≡ keeps (now (c .entry)) (record { identifier = now (id .entry); rights = now (v .entry) }) .read) × (now (c .exit) ≡ keeps (now (c .entry)) (record { identifier = now (id .entry); rights = now (v .entry) }) .certificate) ⌝ }
+    ensures { λ r. ⌜ (r ≡ keeps (now (c .entry)) (record { identifier = now (id .entry); rights = now (v .entry) }) .read) × (now (c .exit) ≡ keeps (now (c .entry)) (record { identifier = now (id .entry); rights = now (v .entry) }) .bytes) ⌝ }
 {
     if is_for(id, Known::Travel) {
         return keep_known(Known::Travel, v, c);
@@ -151,7 +154,7 @@ fn keep(id: &[u8], v: &[u8], c: &mut [u8]) -> RunRead
 
 // The same for the bytes of an extension.
 fn extension(t: &[u8], c: &mut [u8]) -> RunRead
-    ensures { λ r. ⌜ (r ≡ extensionOn (now (c .entry)) (now (t .entry)) .read) × (now (c .exit) ≡ extensionOn (now (c .entry)) (now (t .entry)) .certificate) ⌝ }
+    ensures { λ r. ⌜ (r ≡ extensionOn (now (c .entry)) (now (t .entry)) .read) × (now (c .exit) ≡ extensionOn (now (c .entry)) (now (t .entry)) .bytes) ⌝ }
 {
     let form = EXTENSION;
     let q = read_all(t, &form);
@@ -163,9 +166,10 @@ fn extension(t: &[u8], c: &mut [u8]) -> RunRead
     keep(part(t, starts[0], lens[0]), part(t, starts[1], lens[1]), c)
 }
 
-// The same for a run of extensions, up to the first that has a fault.
+// The same for a run of extensions, up to the first that has a fault. The head is read here to know where an extension ends; the reader
+// then reads all of it.
 fn run(s: &[u8], c: &mut [u8]) -> RunRead
-    ensures { λ r. ⌜ (r ≡ runOn (now (c .entry)) (now (s .entry)) .read) × (now (c .exit) ≡ runOn (now (c .entry)) (now (s .entry)) .certificate) ⌝ }
+    ensures { λ r. ⌜ (r ≡ runOn (now (c .entry)) (now (s .entry)) .read) × (now (c .exit) ≡ runOn (now (c .entry)) (now (s .entry)) .bytes) ⌝ }
 {
     let mut at = 0;
     while at < s.len() {

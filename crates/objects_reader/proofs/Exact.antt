@@ -1,6 +1,6 @@
 -- A reading by a form ends clean exactly on the form's writings, and then notes the place of each value. Read before: specs/Encoding.antt,
--- specs/Places.antt, Fitting.antt. Exports `all-complete`, `all-places`, `all-sound`, `read-complete`, `read-sound`, and `bytes-drop`,
--- `bytes-take`.
+-- specs/Places.antt, Sayable.antt. Exports `all-complete`, `all-places`, `all-sound`, `read-complete`, `read-sound`, and `bytes-drop`,
+-- `bytes-take`, `none-left`.
 use Prim.Native.Nat.{ℕ, zero, suc, _+_, _-_, _≤_, _<_}
 use mathlib.Core.Path.{_≡_, refl, sym, ap, ap₂, _∙_}
 use mathlib.Core.List.{List, [], _∷_, _++_, append-assoc, append-nil}
@@ -24,7 +24,7 @@ use Rattle.objects_reader.specs.declared.head.Head.the-variants.{Body, N
 use Rattle.objects_reader.specs.declared.reader.Fault.the-variants.{Tag, Length}
 use Rattle.objects_reader.specs.declared.reader.Reading.{Reading}
 use Rattle.objects_reader.proofs.Heads.{headSize, Begins, headOf-sound}
-use Rattle.objects_reader.proofs.Fitting.{Fitting, short-fitting}
+use Rattle.objects_reader.proofs.Sayable.{AllSayable, short-sayable}
 use Rattle.objects_reader.proofs.Unique.{length-tlv, object-head, object-value, object-rest, follows-head}
 
 -- ---- every writing is read, and the places of its values are noted
@@ -146,8 +146,8 @@ complete-maybe t lo hi f d absent v p g q y z ih base r s us ps w h m =
 complete-maybe t lo hi f d (present a) v p g q y z ih base r s us ps w h m =
     complete-value t lo hi f d a v p q (y .0) (y .1) z ih base r _ s us ps w h m
 
-complete : (f : Form) (v : Values f) (d : ℕ) → Proper f → deep f ≤ d → Sized f v → Fitting f v → Complete f v d
-unfolding readForm encode leaves placesAt Proper deep Sized Fitting
+complete : (f : Form) (v : Values f) (d : ℕ) → Proper f → deep f ≤ d → Sized f v → AllSayable f v → Complete f v d
+unfolding readForm encode leaves placesAt Proper deep Sized AllSayable
 complete done v d p q x z base r s us ps w h m = simp append-nil m
 complete (plain t lo hi f) v d p q x z base r s us ps w h m =
     complete-value t lo hi f d (v .0) (v .1) (p .0) (omega arith) (x .0) (x .1) (z .0) (complete f (v .1) d (p .1) (omega arith) (x .2) (z .1)) base r _ s us ps w h m
@@ -192,10 +192,10 @@ pub record Found (f : Form) (d : ℕ) (s : List ℕ) : Type 0 where
   pub values : Values f
   pub bytes : s ≡ encode f values
   pub sized : Sized f values
-  pub fitting : Fitting f values
+  pub sayable : AllSayable f values
   pub within : deep f ≤ d
 
-none-left : (s : List ℕ) → length s ≡ 0 → s ≡ []
+pub none-left : (s : List ℕ) → length s ≡ 0 → s ≡ []
 none-left [] e = refl
 none-left (a ∷ s) e = absurd (omega arith)
 
@@ -211,7 +211,7 @@ record Value (t lo hi : ℕ) (f : Form) (d : ℕ) (s : List ℕ) : Type 0 where
   values : Values f
   bytes : s ≡ tlv t value ++ encode f values
   sized : Sized f values
-  fitting : Fitting f values
+  sayable : AllSayable f values
   within : deep f ≤ d
 
 module _ (t lo hi : ℕ) (f : Form) (d : ℕ) (ih : Sound f d) (base : ℕ) (s : List ℕ) (r none : Reading) (b : AllBytes s) where
@@ -237,7 +237,7 @@ module _ (t lo hi : ℕ) (f : Form) (d : ℕ) (ih : Sound f d) (base : ℕ) (s :
         values = o .values;
         bytes = split t s k n w ∙ ap (λ (u : List ℕ). tlv t (take n (drop k s)) ++ u) (o .bytes);
         sized = o .sized;
-        fitting = o .fitting;
+        sayable = o .sayable;
         within = o .within;
       })))
 
@@ -249,7 +249,7 @@ module _ (t lo hi : ℕ) (f : Form) (d : ℕ) (ih : Sound f d) (base : ℕ) (s :
 sound-nested : (t : ℕ) (g f : Form) (d : ℕ) → Sound g (d - 1) → Sound f d → (base : ℕ) (s : List ℕ) (r : Reading) → AllBytes s → 1 ≤ d → (h : Head) → headOf t s ≡ h
     → isClean ((onHead h (λ start len. let q = readForm g (d - 1) (base + start) (take len (drop start s)) r in
     ifElse (isClean (q .fault)) (readForm f d (base + (start + len)) (drop (start + len) s) q) q) (spoilt r Tag base) (spoilt r Length base)) .fault) ≡ true → Found (nested t g f) d s
-unfolding encode deep Sized Fitting
+unfolding encode deep Sized AllSayable
 sound-nested t g f d ig ih base s r b m NoTag e c = false-true c
 sound-nested t g f d ig ih base s r b m NoLength e c = false-true c
 sound-nested t g f d ig ih base s r b m (Body k n) e c =
@@ -269,29 +269,29 @@ sound-nested t g f d ig ih base s r b m (Body k n) e c =
       values = (p .values, o .values);
       bytes = split t s k n w ∙ ap₂ (λ (x y : List ℕ). tlv t x ++ y) (p .bytes) (o .bytes);
       sized = (p .sized, o .sized);
-      fitting = (omega arith, p .fitting, o .fitting);
+      sayable = (omega arith, p .sayable, o .sayable);
       within = omega arith;
     })
     (λ x. false-true (simp x at c))
 
 sound : (f : Form) (d : ℕ) → Sound f d
-unfolding readForm encode perhaps deep Sized Fitting
+unfolding readForm encode perhaps deep Sized AllSayable
 sound done d base s r b c =
     by-cases (eqb (length s) 0)
-    (λ e. record { values = tt; bytes = none-left s (eqb-true (length s) 0 e); sized = tt; fitting = tt; within = omega arith })
+    (λ e. record { values = tt; bytes = none-left s (eqb-true (length s) 0 e); sized = tt; sayable = tt; within = omega arith })
     (λ e. false-true (simp e at c))
 sound (plain t lo hi f) d base s r b c =
     let x = sound-value t lo hi f d (sound f d) base s r _ b c in
     let m = x .0 in
     ⊎-elim (λ y. false-true y)
-    (λ y. let u = y .within in record { values = (y .value, y .values); bytes = y .bytes; sized = (y .least, y .most, y .sized); fitting = (y .short, y .fitting); within = omega arith })
+    (λ y. let u = y .within in record { values = (y .value, y .values); bytes = y .bytes; sized = (y .least, y .most, y .sized); sayable = (y .short, y .sayable); within = omega arith })
     (x .1)
 sound (maybe t lo hi f) d base s r b c =
     let x = sound-value t lo hi f d (sound f d) base s r _ b c in
     let m = x .0 in
     ⊎-elim
-    (λ y. let o = sound f d base s (noted r 0 0) b y in let u = o .within in record { values = (absent, o .values); bytes = o .bytes; sized = (tt, o .sized); fitting = (lit< tt, o .fitting); within = omega arith })
-    (λ y. let u = y .within in record { values = (present (y .value), y .values); bytes = y .bytes; sized = ((y .least, y .most), y .sized); fitting = (y .short, y .fitting); within = omega arith })
+    (λ y. let o = sound f d base s (noted r 0 0) b y in let u = o .within in record { values = (absent, o .values); bytes = o .bytes; sized = (tt, o .sized); sayable = (lit< tt, o .sayable); within = omega arith })
+    (λ y. let u = y .within in record { values = (present (y .value), y .values); bytes = y .bytes; sized = ((y .least, y .most), y .sized); sayable = (y .short, y .sayable); within = omega arith })
     (x .1)
 sound (nested t g f) d base s r b c =
     by-cases (eqb d 0) (λ e. false-true (simp e at c))
@@ -311,7 +311,7 @@ fresh-notes s = record { clean = refl; count = refl; starts = refl; lens = refl;
 
 module _ (f : Form) (p : Proper f) (few : leafCount f ≤ 13) where
   -- every writing is read clean, and its values are noted, where they stand
-  module _ (q : deep f ≤ 4) (v : Values f) (x : Sized f v) (z : Fitting f v) where
+  module _ (q : deep f ≤ 4) (v : Values f) (x : Sized f v) (z : AllSayable f v) where
     all-at : NotedAt (encode f v) (readAll f (encode f v)) (leaves f v) (placesAt f v 0)
     unfolding placePairs
     all-at =
@@ -329,7 +329,7 @@ module _ (f : Form) (p : Proper f) (few : leafCount f ≤ 13) where
 
   pub read-complete : deep f ≤ 4 → (v : Values f) → Sized f v → length (encode f v) < 65536 → Noted (encode f v) (readBy f (encode f v)) (leaves f v)
   unfolding readBy
-  read-complete q v x z = simp (le-ltb 65535 (length (encode f v)) (omega arith)) (all-complete q v x (short-fitting f v z))
+  read-complete q v x z = simp (le-ltb 65535 (length (encode f v)) (omega arith)) (all-complete q v x (short-sayable f v z))
 
   -- what is read clean is a writing
   pub all-sound : (s : List ℕ) → AllBytes s → isClean ((readAll f s) .fault) ≡ true → Found f 4 s

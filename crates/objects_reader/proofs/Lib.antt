@@ -5,7 +5,7 @@ pub mod Steps
 pub mod Within
 pub mod Heads
 pub mod Unique
-pub mod Fitting
+pub mod Sayable
 pub mod Sizes
 pub mod Exact
 pub mod Taking

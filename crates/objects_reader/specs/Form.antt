@@ -1,7 +1,8 @@
 -- The form of nested data objects, and what the reader finds in a part by it.
 --
 -- What the reader accepts is said in a readable way elsewhere: `searchData` and `SearchSized` (objects_templates/specs/Search.antt) for a
--- search, `updateData` and `UpdateSized`, `referenceData` and `References` for the others, `stampData` and `Lawful` for a stamp. The laws
+-- search, `updateData` and `UpdateSized`, `referenceData` and `References` for the others, `stampData` and `Lawful` for a stamp, `extensionData`
+-- and `Sayable` for an extension. The laws
 -- `search-sound`, `search-complete` and their likes prove that it accepts exactly that. This file says what a reading answers for every
 -- input, where it finds a fault too.
 use Prim.Native.Nat.{ℕ, zero, suc, _+_, _-_, min}

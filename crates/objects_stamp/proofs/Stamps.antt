@@ -22,7 +22,7 @@ use Rattle.objects_reader.specs.declared.reader.Fault.the-variants.{Clean, Tag,
 use Rattle.objects_reader.specs.declared.reader.Reading.{Reading}
 use Rattle.objects_reader.proofs.Unique.{object-value, encode-unique}
 use Rattle.objects_reader.proofs.Exact.{all-complete, all-places, all-sound}
-use Rattle.objects_reader.proofs.Fitting.{short-fitting}
+use Rattle.objects_reader.proofs.Sayable.{short-sayable}
 use Rattle.objects_stamp.specs.declared.chars.Chars.{Chars}
 use Rattle.objects_stamp.specs.declared.chars.Chars.the-variants.{Letters, Text, Binary}
 use Rattle.objects_stamp.specs.declared.Reason.{Reason}
@@ -146,7 +146,7 @@ stamp-sound s b e =
     let t = told-first (contentOk s) (empty s) stampForm s small flat few ∙ e in
     let o = all-sound stampForm proper few s b (tells-clean (contentOk s) (empty s) q 13 0 t) in
     let v = o .values in
-    let n : Noted s q (fieldsOf (fields v)) = rw (← o .bytes, leaves-are (fields v)) at (all-complete stampForm proper few flat v (o .sized) (o .fitting)) in
+    let n : Noted s q (fieldsOf (fields v)) = rw (← o .bytes, leaves-are (fields v)) at (all-complete stampForm proper few flat v (o .sized) (o .sayable)) in
     let c : (k : ℕ) → k < 13 → fits s k (getD (fieldsOf (fields v)) k []) ≡ true =
     λ k h. sym (content-is s q (fieldsOf (fields v)) n k h) ∙ tells-each (contentOk s) q 13 0 t k (omega arith) (omega arith) in
     (fields v, lawful-of s v (o .sized) (o .bytes) c, o .bytes ∙ encoded (fields v))
@@ -286,13 +286,13 @@ module _ (x : Stamp) (a : Lawful x) where
   stamp-complete =
       let s = stampData x in
       let q = readAll stampForm s in
-      let n : Noted s q (fieldsOf x) = rw (encoded x, leaves-are x) at (all-complete stampForm proper few flat (values x) sized (short-fitting stampForm (values x) short)) in
+      let n : Noted s q (fieldsOf x) = rw (encoded x, leaves-are x) at (all-complete stampForm proper few flat (values x) sized (short-sayable stampForm (values x) short)) in
       sym (told-first (contentOk s) (empty s) stampForm s small flat few)
       ∙ tells-right (contentOk s) q 13 0 (n .clean) (λ k h. content-is s q (fieldsOf x) n k (omega arith) ∙ fitting k (omega arith))
 
   -- and the places noted are those of its fields
   pub stamp-noted : placePairs ((readAll stampForm (stampData x)) .starts) ((readAll stampForm (stampData x)) .lens) 13 ≡ stampPlaces x
-  stamp-noted = rw (encoded x, thirteen, places-are x) at (all-places stampForm proper few flat (values x) sized (short-fitting stampForm (values x) short))
+  stamp-noted = rw (encoded x, thirteen, places-are x) at (all-places stampForm proper few flat (values x) sized (short-sayable stampForm (values x) short))
 
   -- and other fields have another writing
   pub stamp-unique : (y : Stamp) → stampData x ≡ stampData y → x ≡ y

@@ -40,7 +40,7 @@ fn reason(number: u64) {
         3 => warn(b"! refused (3): rights are 60 bytes, three certificates of 20"),
         4 => warn(b"! refused (4): the session does not fit the card"),
         7 => warn(
-            b"! refused (7): an extension is not well formed, or its rights have another size",
+            b"! refused (7): an extension is not well formed, or the rights of a known one have the wrong size",
         ),
         8 => warn(b"! refused (8): a certificate has a known extension twice"),
         9 => warn(

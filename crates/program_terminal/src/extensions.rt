@@ -14,14 +14,14 @@ fn refused(r: u64) -> usize {
     status::REFUSED
 }
 
-// Opens a session with what three runs give, and says what it may do. Where they are refused, the session stays.
+// Opens a session with what three runs give, and says what it may do. Where they are refused, that is 60 zeros: a session without rights.
 fn open(first: &[u8], second: &[u8], third: &[u8], session: &mut [u8]) -> usize {
     let mut chain = [0; 60];
     let r = malquindo::malquindo_rights(first, second, third, &mut chain);
+    let o = malquindo::malquindo_open(&chain, session);
     if r != 0 {
         return refused(r);
     }
-    let o = malquindo::malquindo_open(&chain, session);
     if o != 0 {
         return refused(o);
     }
@@ -30,7 +30,7 @@ fn open(first: &[u8], second: &[u8], third: &[u8], session: &mut [u8]) -> usize 
     status::GOOD
 }
 
-// How many bytes a run has, which are put in front of `out`; more than that has room for where the word is no run.
+// Puts the bytes of a run at the start of `out`, and says how many they are; hex::NONE where the word is no run.
 fn decode(word: &[u8], out: &mut [u8]) -> usize {
     if text::is(word, b"-") {
         return 0;

@@ -7,7 +7,7 @@ use Rattle.promises.specs.Bodies.{C-file, C-file-stays}
 use Rattle.promises.specs.Certificates.{C-certificate, C-certificate-kept}
 use Rattle.promises.specs.Index.{C-index-builds, C-index-extends, C-index-reads, C-index-kept, C-index-room, C-index-replies}
 use Rattle.promises.specs.Stamps.{C-stamp-reads, C-stamp-unique, C-stamp-longest}
-use Rattle.promises.specs.Rights.{C-rights, C-rights-refused}
+use Rattle.promises.specs.Rights.{C-rights, C-rights-read, C-rights-refused}
 use Rattle.promises.proofs.Keeping.{step-kept}
 use Rattle.promises.proofs.Opening.{opening-opened}
 use Rattle.store_move.proofs.Moves.{moveCard-numbered}
@@ -181,6 +181,9 @@ c-stamp-longest = stamps.c-stamp-longest
 
 pub c-rights : C-rights
 c-rights = rights.c-rights
+
+pub c-rights-read : C-rights-read
+c-rights-read = rights.c-rights-read
 
 pub c-rights-refused : C-rights-refused
 c-rights-refused = rights.c-rights-refused

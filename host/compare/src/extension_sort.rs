@@ -84,7 +84,7 @@ pub fn all() -> Vec<What> {
     objects.chain([What::Surplus]).chain(known).collect()
 }
 
-/// An extension that is in order.
+/// An extension without a fault.
 #[derive(Clone, Copy)]
 pub struct Seen<'b> {
     pub identifier: &'b [u8],
@@ -102,6 +102,9 @@ pub struct Found {
     /// Whether this is refusal 7 of a known one that stands there for the second time, so that
     /// both are true of it.
     pub also_second: bool,
+    /// What is wrong next behind the extension at fault. None, too, where its `73` cannot be read,
+    /// so that nothing tells where it ends.
+    pub behind: Option<What>,
 }
 
 /// What stands in a run.
@@ -112,25 +115,36 @@ pub struct Walk<'b> {
 
 /// Reads a run up to its end or its first fault.
 pub fn walk(run: &[u8]) -> Walk<'_> {
-    let mut seen: Vec<Seen<'_>> = Vec::new();
-    let mut rest = run;
-    while !rest.is_empty() {
-        match extension(rest, &seen) {
+    let mut seen = Vec::new();
+    let found = first_fault(run, &mut seen).map(|(what, rest)| {
+        let number = seen.len();
+        let also_second = what.refusal() == BAD && is_second(rest, &seen);
+        let behind = object(rest, Part::Extension).ok();
+        let behind = behind.and_then(|(_, behind)| first_fault(behind, &mut seen));
+        seen.truncate(number);
+        Found {
+            number,
+            what,
+            also_second,
+            behind: behind.map(|(what, _)| what),
+        }
+    });
+    Walk { seen, found }
+}
+
+/// What is first wrong with the extensions that these bytes should be, and the bytes from that
+/// one on. Those before it join what was seen.
+fn first_fault<'b>(mut bytes: &'b [u8], seen: &mut Vec<Seen<'b>>) -> Option<(What, &'b [u8])> {
+    while !bytes.is_empty() {
+        match extension(bytes, seen) {
             Ok((next, behind)) => {
                 seen.push(next);
-                rest = behind;
+                bytes = behind;
             }
-            Err(what) => {
-                let found = Some(Found {
-                    number: seen.len(),
-                    what,
-                    also_second: what.refusal() == BAD && is_second(rest, &seen),
-                });
-                return Walk { seen, found };
-            }
+            Err(what) => return Some((what, bytes)),
         }
     }
-    Walk { seen, found: None }
+    None
 }
 
 /// The extension that the bytes begin with, and what is behind it.

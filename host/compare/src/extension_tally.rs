@@ -1,6 +1,7 @@
 //! How often each sort of reading of rights occurred.
 
 use crate::extension::{which, KNOWN, ORDERS, RUNS};
+use crate::extension_faults::{Part, BAD, PARTS, SECOND};
 use crate::extension_sort::{self, walk, Seen, Walk, What};
 use crate::make::RIGHTS_LEN;
 use crate::step::Step;
@@ -15,8 +16,10 @@ const NUMBERS: [&str; 4] = ["first", "second", "third", "later"];
 const IDENTIFIERS: [&str; 4] = ["of no byte", "shorter", "as long", "longer"];
 /// The sizes that the rights of unknown ones have at most, above the one before.
 const SIZES: [usize; 8] = [0, 1, 16, 17, 127, 255, 32_767, 65_535];
-/// How many bytes the lengths of `73` have.
+/// How many bytes the lengths of `73`, `06` and `53` have.
 const FORMS: [usize; 3] = [1, 2, 3];
+/// The refusals of two faults, one behind the other.
+const PAIRS: [(u64, u64); 4] = [(BAD, BAD), (BAD, SECOND), (SECOND, BAD), (SECOND, SECOND)];
 /// A run of more bytes than a length of two bytes can say.
 const LONG_RUN: usize = 65_536;
 
@@ -28,8 +31,10 @@ pub struct ExtensionTally {
     runs: BTreeMap<(u64, usize), u64>,
     numbers: BTreeMap<(u64, usize), u64>,
     faults: BTreeMap<What, u64>,
-    /// A further fault: both refusals true of one extension; another run that is at fault, too.
+    /// A further fault: both refusals true of one extension; another one behind it in its run, by
+    /// the refusals of the two; another run that is at fault, too.
     both: u64,
+    behind: BTreeMap<(u64, u64), u64>,
     other_runs: u64,
     /// Runs of what was accepted: by the order of the known ones (its place in [`ORDERS`]); those
     /// with unknown ones among them; those that are long.
@@ -39,8 +44,9 @@ pub struct ExtensionTally {
     /// Unknown ones: by identifier (its place in [`IDENTIFIERS`]) and by size (in [`SIZES`]).
     identifiers: [u64; 4],
     sizes: [u64; 8],
-    /// Extensions that are in order, by how many bytes the length of `73` has.
-    forms: [u64; 3],
+    /// Extensions without a fault, by how many bytes the length has: that of `73`, of `06` and of
+    /// `53`.
+    forms: [[u64; 3]; 3],
     /// Buffers that are too short, by their length; those just long enough, and longer ones.
     short_buffers: BTreeMap<usize, u64>,
     buffers: [u64; 2],
@@ -93,6 +99,10 @@ impl ExtensionTally {
         *self.numbers.entry((refusal, number)).or_default() += 1;
         *self.faults.entry(first.what).or_default() += 1;
         self.both += u64::from(first.also_second);
+        if let Some(second) = first.behind {
+            let pair = (refusal, second.refusal());
+            *self.behind.entry(pair).or_default() += 1;
+        }
         self.other_runs += u64::from(found.next().is_some());
     }
 
@@ -103,14 +113,17 @@ impl ExtensionTally {
             .filter_map(|one| which(one.identifier))
             .collect();
         let place = ORDERS.iter().position(|known| **known == order);
-        self.orders[place.unwrap_or(0)] += 1;
+        self.orders[place.expect("no known one is seen twice")] += 1;
         self.mixed += u64::from(!order.is_empty() && order.len() < seen.len());
         for one in seen {
-            self.forms[form(one.inside)] += 1;
+            let lengths = [one.inside, one.identifier.len(), one.rights.len()];
+            for (forms, length) in self.forms.iter_mut().zip(lengths) {
+                forms[form(length)] += 1;
+            }
             if which(one.identifier).is_none() {
                 self.identifiers[identifier_form(one.identifier.len())] += 1;
                 let size = SIZES.iter().position(|most| one.rights.len() <= *most);
-                self.sizes[size.unwrap_or(0)] += 1;
+                self.sizes[size.expect("no length is above 65,535")] += 1;
             }
         }
     }
@@ -155,6 +168,10 @@ impl ExtensionTally {
                 wanted.push((what, count(&self.numbers, (refusal, number)), each));
             }
         }
+        for (first, second) in PAIRS {
+            let what = format!("refusal {second} behind refusal {first}");
+            wanted.push((what, count(&self.behind, (first, second)), each / 3));
+        }
         wanted
     }
 
@@ -163,8 +180,8 @@ impl ExtensionTally {
         let identifiers = identifiers.map(|(name, n)| (format!("unknown, {name}"), n, each));
         let sizes = SIZES.iter().zip(self.sizes);
         let sizes = sizes.map(|(most, n)| (format!("unknown, rights up to {most}"), n, 1));
-        let forms = FORMS.iter().zip(self.forms);
-        let forms = forms.map(|(bytes, n)| (format!("73 with a length of {bytes}"), n, each));
+        let forms = PARTS.into_iter().zip(self.forms);
+        let forms = forms.flat_map(|(part, counts)| wanted_lengths(part, counts, each));
         let buffers = ["just long enough", "longer"].iter().zip(self.buffers);
         let buffers = buffers.map(|(name, n)| (format!("buffers {name}"), n, each));
         identifiers
@@ -173,6 +190,20 @@ impl ExtensionTally {
             .chain(buffers)
             .collect()
     }
+}
+
+/// How often the lengths of a part should have so many bytes. No made-up identifier is long: only
+/// the scene has such.
+fn wanted_lengths(part: Part, counts: [u64; 3], each: u64) -> [(String, u64, u64); 3] {
+    let wanted = match part {
+        Part::Extension => each,
+        Part::Identifier => 1,
+        Part::Rights => each / 3,
+    };
+    std::array::from_fn(|at| {
+        let what = format!("{} with a length of {}", part.name(), FORMS[at]);
+        (what, counts[at], wanted)
+    })
 }
 
 fn count<K: Ord>(counts: &BTreeMap<K, u64>, key: K) -> u64 {
@@ -230,7 +261,16 @@ impl ExtensionTally {
         writeln!(
             f,
             "\n7 and 8 of one extension {both} times, a second run at fault {other_runs} times"
-        )
+        )?;
+        writeln!(
+            f,
+            "\n| first fault | 7 behind it | 8 behind it |\n|---|---|---|"
+        )?;
+        for first in [BAD, SECOND] {
+            let [bad, second] = [BAD, SECOND].map(|behind| count(&self.behind, (first, behind)));
+            writeln!(f, "| refusal {first} | {bad} | {second} |")?;
+        }
+        Ok(())
     }
 
     fn write_faults(&self, f: &mut fmt::Formatter<'_>) -> fmt::Result {
@@ -251,6 +291,13 @@ impl ExtensionTally {
         writeln!(f, "\n| unknown ones, identifier | times |\n|---|---|")?;
         for (name, count) in IDENTIFIERS.iter().zip(self.identifiers) {
             writeln!(f, "| {name} | {count} |")?;
+        }
+        writeln!(
+            f,
+            "\n| length of | 1 byte | 2 bytes | 3 bytes |\n|---|---|---|---|"
+        )?;
+        for (part, [one, two, three]) in PARTS.into_iter().zip(self.forms) {
+            writeln!(f, "| {} | {one} | {two} | {three} |", part.name())?;
         }
         let short: u64 = self.short_buffers.values().sum();
         let [enough, longer] = self.buffers;

@@ -1,5 +1,5 @@
-//! Made-up runs of extensions to read rights from: well-formed ones, ones with one fault or two, and
-//! other bytes.
+//! Made-up runs of extensions to read rights from: well-formed ones, ones with one fault or two,
+//! and other bytes.
 
 use crate::card::Size;
 use crate::extension::{self, Extension, Runs, KNOWN, ORDERS, RUNS};

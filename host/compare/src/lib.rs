@@ -13,7 +13,7 @@
 //! - [`extension_faults`], [`extensions`]: the same of extensions to read rights from;
 //! - [`follow`]: an index that is kept beside a card;
 //! - [`index_scene`], [`stamp_scene`], [`extension_scene`], [`scene`]: the calls that every run
-//!   begins with;
+//!   begins with; [`extension_more`]: more of those that a run of rights alone begins with;
 //! - [`sequence`]: the calls, in sequences on one card each;
 //! - [`talk`]: commands for one card, each with the library's answer;
 //! - [`sort`], [`index_tally`], [`stamp_sort`], [`stamp_tally`], [`extension_sort`],
@@ -30,6 +30,7 @@ pub mod certificates;
 pub mod command;
 pub mod extension;
 pub mod extension_faults;
+pub mod extension_more;
 pub mod extension_scene;
 pub mod extension_sort;
 pub mod extension_tally;

@@ -13,8 +13,8 @@ use std::ops::RangeInclusive;
 
 /// The seed of the sample that is kept as data.
 pub const SEED: u64 = 93_053;
-/// The most bytes the sample may have.
-pub const LONGEST: usize = 556_000;
+/// The most bytes the sample may have. The program that reads it has room for 524,288 bytes.
+pub const LONGEST: usize = 500_000;
 /// What the response buffer holds before each command, and the target before each move.
 const FILL: u8 = 0xA5;
 
@@ -54,40 +54,49 @@ fn one_sequence(seed: u64, number: u64) -> (Vec<u8>, Vec<Lines>) {
     let mut lines = Vec::new();
     while let Some(step) = sequence.next(&state) {
         encode(&step, &mut stdin);
-        let text = match &step {
-            Step::Image(image) => {
-                state.image.clone_from(image);
-                continue;
-            }
-            Step::Session(session) => {
-                state.session.clone_from(session);
-                continue;
-            }
-            Step::Open(rights) => {
-                state.result = reference::open(rights, &mut state.session);
-                format!("{} {}\n", state.result, hex(&state.session))
-            }
-            Step::Command {
-                response_len,
-                command,
-                ..
-            } => run(&mut state, *response_len, command),
-            Step::Move { target_len, list } => move_card(&mut state, *target_len, list),
-            Step::File(kind) => find_file(&mut state, *kind),
-            Step::Certificates {
-                card,
-                desk,
-                first,
-                last,
-            } => find_certificates(&mut state, card, desk, *first..=*last),
-            Step::Index { call, places, body } => index(&mut state, *call, places, body),
-            Step::Stamp { record, entries } => read_stamp(&mut state, record, *entries),
-            Step::Rights { runs, room } => read_rights(&mut state, runs, *room),
-        };
-        let results = state.results(&step).to_vec();
-        lines.push((text, step, results));
+        if let Some(text) = done(&mut state, &step) {
+            let results = state.results(&step).to_vec();
+            lines.push((text, step, results));
+        }
     }
     (stdin, lines)
+}
+
+/// Does a step and says what it did; nothing of one that is no call.
+fn done(state: &mut State, step: &Step) -> Option<String> {
+    Some(match step {
+        Step::Image(image) => {
+            state.image.clone_from(image);
+            return None;
+        }
+        Step::Session(session) => {
+            state.session.clone_from(session);
+            return None;
+        }
+        Step::Open(rights) => open(state, rights),
+        Step::Command {
+            response_len,
+            command,
+            ..
+        } => run(state, *response_len, command),
+        Step::Move { target_len, list } => move_card(state, *target_len, list),
+        Step::File(kind) => find_file(state, *kind),
+        Step::Certificates {
+            card,
+            desk,
+            first,
+            last,
+        } => find_certificates(state, card, desk, *first..=*last),
+        Step::Index { call, places, body } => index(state, *call, places, body),
+        Step::Stamp { record, entries } => read_stamp(state, record, *entries),
+        Step::Rights { runs, room } => read_rights(state, runs, *room),
+    })
+}
+
+/// Opens a session and says what it is then.
+fn open(state: &mut State, rights: &[u8]) -> String {
+    state.result = reference::open(rights, &mut state.session);
+    format!("{} {}\n", state.result, hex(&state.session))
 }
 
 /// Runs a command and says what it did.
@@ -190,82 +199,67 @@ fn read_rights(state: &mut State, [first, second, third]: &Runs, room: usize) ->
 /// 9 a stamp, 10 rights; numbers are little-endian.
 fn encode(step: &Step, bytes: &mut Vec<u8>) {
     match step {
-        Step::Image(image) => {
-            bytes.push(1);
-            put(image, bytes);
-        }
+        Step::Image(image) => case(1, &[], &[image], bytes),
         Step::Session(session) => {
-            bytes.push(2);
-            bytes.push(session.len() as u8);
-            bytes.extend(session);
+            let length = session.len() as u8;
+            case(2, &[&[length], &session[..]], &[], bytes);
         }
-        Step::Open(rights) => {
-            bytes.push(3);
-            bytes.extend((rights.len() as u16).to_le_bytes());
-            bytes.extend(rights);
-        }
+        Step::Open(rights) => case(3, &[&two(rights.len()), rights], &[], bytes),
         Step::Command {
             response_len,
             command,
             ..
         } => {
-            bytes.push(4);
-            bytes.extend((*response_len as u16).to_le_bytes());
-            bytes.extend((command.len() as u16).to_le_bytes());
-            bytes.extend(command);
+            let lengths = [two(*response_len), two(command.len())].concat();
+            case(4, &[&lengths, command], &[], bytes);
         }
         Step::Move { target_len, list } => {
-            bytes.push(5);
-            bytes.extend((*target_len as u32).to_le_bytes());
-            bytes.extend((list.len() as u16).to_le_bytes());
-            bytes.extend(list);
+            let room = (*target_len as u32).to_le_bytes();
+            case(5, &[&room, &two(list.len()), list], &[], bytes);
         }
-        Step::File(kind) => {
-            bytes.push(6);
-            bytes.extend(kind.to_le_bytes());
-        }
+        Step::File(kind) => case(6, &[&kind.to_le_bytes()], &[], bytes),
         Step::Certificates {
             card,
             desk,
             first,
             last,
-        } => {
-            bytes.extend([7, *first, *last]);
-            for body in [card, desk] {
-                put(body, bytes);
-            }
-        }
+        } => case(7, &[&[*first, *last]], &[card, desk], bytes),
         Step::Index { call, places, body } => {
-            let (op, kind, first, last) = match *call {
-                IndexCall::Build { kind } => (0, kind, 0, 0),
-                IndexCall::Extend { kind, n } => (1, kind, n, 0),
-                IndexCall::Read { first, last } => (2, 0, first, last),
-            };
-            bytes.extend([8, op]);
-            bytes.extend(kind.to_le_bytes());
-            bytes.extend((first as u64).to_le_bytes());
-            bytes.extend((last as u64).to_le_bytes());
-            bytes.extend((places.len() as u16).to_le_bytes());
-            bytes.extend(places.iter().flat_map(|place| place.to_le_bytes()));
-            put(body, bytes);
+            case(8, &[&index_head(*call, places)], &[body], bytes);
         }
-        Step::Stamp { record, entries } => {
-            bytes.push(9);
-            bytes.extend((*entries as u16).to_le_bytes());
-            put(record, bytes);
-        }
-        Step::Rights { runs, room } => {
-            bytes.push(10);
-            bytes.extend((*room as u16).to_le_bytes());
-            for run in runs {
-                put(run, bytes);
-            }
-        }
+        Step::Stamp { record, entries } => case(9, &[&two(*entries)], &[record], bytes),
+        Step::Rights { runs, room } => case(10, &[&two(*room)], &runs.each_ref(), bytes),
     }
 }
 
-/// The length of a part in four bytes, and its bytes.
-fn put(part: &[u8], bytes: &mut Vec<u8>) {
-    bytes.extend((part.len() as u32).to_le_bytes());
-    bytes.extend(part);
+/// The number of a case, the bytes of its head, and its parts: of each the length in four bytes,
+/// and its bytes.
+fn case(number: u8, head: &[&[u8]], parts: &[&Vec<u8>], bytes: &mut Vec<u8>) {
+    bytes.push(number);
+    bytes.extend(head.concat());
+    for part in parts {
+        bytes.extend((part.len() as u32).to_le_bytes());
+        bytes.extend(*part);
+    }
+}
+
+/// A number in two bytes.
+fn two(number: usize) -> [u8; 2] {
+    (number as u16).to_le_bytes()
+}
+
+/// What is done with an index, its numbers and the list.
+fn index_head(call: IndexCall, places: &[u32]) -> Vec<u8> {
+    let (op, kind, first, last) = match call {
+        IndexCall::Build { kind } => (0, kind, 0, 0),
+        IndexCall::Extend { kind, n } => (1, kind, n, 0),
+        IndexCall::Read { first, last } => (2, 0, first, last),
+    };
+    let mut head = vec![op];
+    head.extend(kind.to_le_bytes());
+    head.extend((first as u64).to_le_bytes());
+    head.extend((last as u64).to_le_bytes());
+    head.extend(two(places.len()));
+    head.extend(places.iter().flat_map(|place| place.to_le_bytes()));
+    head
 }

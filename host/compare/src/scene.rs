@@ -15,7 +15,8 @@ use std::ops::RangeInclusive;
 /// how many bytes the new image has; how many bytes a file has and where, or `none`; of each
 /// certificate the body that has it, its place there and its bytes, or `missing`, or `refusal 9`,
 /// with a comma between them; of an index what [`index_scene`] says, of a stamp what
-/// [`stamp_scene`] says, and of rights what [`extension_scene`] says; nothing for what is no call, and for the opening.
+/// [`stamp_scene`] says, and of rights what [`extension_scene`] says; nothing for what is no call,
+/// and for the opening.
 pub type Line = (Step, String);
 
 const ENTRY: u16 = 0x0101;

@@ -4,6 +4,7 @@
 use crate::card::{self, Size};
 use crate::certificates;
 use crate::command;
+use crate::extension_more;
 use crate::extension_scene;
 use crate::extensions;
 use crate::follow::Follow;
@@ -79,7 +80,7 @@ impl Sequence {
         let random = Random::part(seed, number);
         match number {
             0 => {
-                let lines = [extension_scene::lines(), extension_scene::more_lines()].concat();
+                let lines = [extension_scene::lines(), extension_more::more_lines()].concat();
                 let steps = lines.into_iter().map(|(step, _)| step);
                 Self::of_steps(random, Size::Any, steps.collect())
             }

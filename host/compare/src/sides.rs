@@ -194,8 +194,8 @@ impl Sides {
         self.reference = Outcome::default();
     }
 
-    /// Gives both sides the same response buffer, target, list or buffer for rights, of random bytes,
-    /// and keeps what they hold.
+    /// Gives both sides the same response buffer, target, list or buffer for rights, of random
+    /// bytes, and keeps what they hold.
     fn prepare(&mut self, step: &Step, fill: &mut Random) {
         let sides = [&mut self.before, &mut self.proved, &mut self.reference];
         match step {

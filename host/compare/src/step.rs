@@ -5,7 +5,7 @@ use std::fmt;
 
 /// One thing to do. An image or a session stays until another comes; a move that is done brings
 /// the image that it wrote.
-#[derive(Clone)]
+#[derive(Clone, PartialEq, Eq, Hash)]
 pub enum Step {
     Image(Vec<u8>),
     Session(Vec<u8>),
@@ -49,7 +49,7 @@ pub enum Step {
 }
 
 /// What is done with an index.
-#[derive(Clone, Copy)]
+#[derive(Clone, Copy, PartialEq, Eq, Hash)]
 pub enum IndexCall {
     Build {
         kind: u16,

@@ -335,7 +335,7 @@ fn the_sample_covers_what_it_should() {
     assert!((60..=140).contains(&sample.tally.moves));
     assert!((300..=500).contains(&sample.tally.index.calls()));
     assert!((1_000..=1_200).contains(&sample.tally.stamp.calls()));
-    assert!((600..=800).contains(&sample.tally.extension.calls()));
+    assert!((400..=500).contains(&sample.tally.extension.calls()));
     let lines = sample.stdout.lines().count() as u64;
     assert_eq!(lines, sample.tally.calls());
     assert_eq!(Sample::generate(sample::SEED).stdin, sample.stdin);

@@ -4,7 +4,8 @@
 use compare::card::Size;
 use compare::extension::{self, Extension, KNOWN, ORDERS, RUNS};
 use compare::extension_faults::{self, BAD, SECOND};
-use compare::extension_scene;
+use compare::extension_more;
+use compare::extension_scene::{self, Line};
 use compare::extension_sort::{self, walk};
 use compare::extensions;
 use compare::hex::hex;
@@ -459,6 +460,21 @@ fn a_difference_is_seen_among_other_calls() {
     }
 }
 
+/// Whether a reader gives something else than the reference.
+fn differs(wrong: Rights, step: &Step) -> bool {
+    let Step::Rights { runs, room } = step else {
+        panic!("rights");
+    };
+    let [first, second, third] = runs;
+    let mut buffers = [vec![0xC3; *room], vec![0xC3; *room]];
+    let [one, other] = &mut buffers;
+    let results = [
+        wrong(first, second, third, one),
+        reference::rights(first, second, third, other),
+    ];
+    results[0] != results[1] || one != other
+}
+
 /// What is made up sees each slip without the scene.
 #[test]
 fn a_difference_is_seen_without_the_scene() {
@@ -466,19 +482,7 @@ fn a_difference_is_seen_without_the_scene() {
     let made_up = (0..20_000).map(|_| extensions::step(&mut random, Size::Any));
     let steps: Vec<Step> = made_up.collect();
     for (name, wrong) in WRONG {
-        let differs = steps.iter().any(|step| {
-            let Step::Rights { runs, room } = step else {
-                panic!("rights");
-            };
-            let [first, second, third] = runs;
-            let mut buffers = [vec![0xC3; *room], vec![0xC3; *room]];
-            let [one, other] = &mut buffers;
-            let results = [
-                wrong(first, second, third, one),
-                reference::rights(first, second, third, other),
-            ];
-            results[0] != results[1] || one != other
-        });
+        let differs = steps.iter().any(|step| differs(*wrong, step));
         assert!(differs, "no difference by {name}");
     }
 }
@@ -526,7 +530,7 @@ fn said(step: &Step) -> String {
 
 #[test]
 fn the_scene_ends_as_it_says() {
-    let lines = [extension_scene::lines(), extension_scene::more_lines()].concat();
+    let lines = [extension_scene::lines(), extension_more::more_lines()].concat();
     for (number, (step, outcome)) in lines.iter().enumerate() {
         assert_eq!(said(step), *outcome, "line {number}");
     }
@@ -574,9 +578,8 @@ fn the_sorts_are_what_is_told() {
     }
 }
 
-/// The runs of the scene in each place.
-fn runs_of_the_scene() -> [HashSet<Vec<u8>>; RUNS] {
-    let lines = [extension_scene::lines(), extension_scene::more_lines()].concat();
+/// The runs of these lines in each place.
+fn runs_of(lines: Vec<Line>) -> [HashSet<Vec<u8>>; RUNS] {
     let mut all: [HashSet<Vec<u8>>; RUNS] = Default::default();
     for (step, _) in lines {
         if let Step::Rights { runs, .. } = step {
@@ -588,10 +591,53 @@ fn runs_of_the_scene() -> [HashSet<Vec<u8>>; RUNS] {
     all
 }
 
+/// Each fault stands in the sample's part of the scene in each run.
+#[test]
+fn the_sample_has_every_fault_in_every_run() {
+    let sample = runs_of(extension_scene::lines());
+    for fault in extension_faults::all() {
+        for (run, runs) in sample.iter().enumerate() {
+            let (mut objects, number) = extension_scene::draft(run, fault);
+            let made = extension_faults::make(&mut objects, number, fault);
+            assert!(made.is_some(), "{fault:?} in run {run}");
+            let there = runs.contains(&bytes_of(&objects));
+            assert!(there, "{fault:?} in run {run}");
+        }
+    }
+}
+
+/// The sample's part of the scene alone shows each slip.
+#[test]
+fn a_difference_is_seen_by_the_sample() {
+    let lines = extension_scene::lines();
+    for (name, wrong) in WRONG {
+        let differs = lines.iter().any(|(step, _)| differs(*wrong, step));
+        assert!(differs, "no difference by {name}");
+    }
+}
+
+/// Each order stands in the sample's part of the scene in each run that is accepted.
+#[test]
+fn the_sample_has_every_order_in_every_run() {
+    let mut seen: [HashSet<Vec<usize>>; RUNS] = Default::default();
+    for (step, outcome) in extension_scene::lines() {
+        if let (Step::Rights { runs, .. }, true) = (step, outcome.starts_with("rights")) {
+            for (seen, run) in seen.iter_mut().zip(runs) {
+                let known = walk(&run).seen;
+                let known = known
+                    .iter()
+                    .filter_map(|one| extension::which(one.identifier));
+                seen.insert(known.collect());
+            }
+        }
+    }
+    assert_eq!(seen.map(|orders| orders.len()), [ORDERS.len(); RUNS]);
+}
+
 /// Each fault stands in the scene in each run and at each extension where it can be made.
 #[test]
 fn the_scene_has_every_fault_at_every_place() {
-    let scene = runs_of_the_scene();
+    let scene = runs_of([extension_scene::lines(), extension_more::more_lines()].concat());
     for fault in extension_faults::all() {
         for (run, runs) in scene.iter().enumerate() {
             for number in 0..3 {
@@ -602,6 +648,29 @@ fn the_scene_has_every_fault_at_every_place() {
                 }
             }
         }
+    }
+}
+
+/// In each run the scene has an identifier that is as long as it can be.
+#[test]
+fn the_scene_has_the_longest_identifiers() {
+    let start = [0x73, 0x82, 0xFF, 0xFF, 0x06, 0x82, 0xFF, 0xF9];
+    for runs in runs_of(extension_more::more_lines()) {
+        let mut longest = runs.iter().filter(|run| run.starts_with(&start));
+        assert_eq!(
+            longest.next().map(|run| run[65_537..65_539].to_vec()),
+            Some(vec![0x53, 0x00])
+        );
+    }
+}
+
+/// No reading stands in the scene twice.
+#[test]
+fn the_scene_has_nothing_twice() {
+    let mut seen = HashSet::new();
+    let lines = [extension_scene::lines(), extension_more::more_lines()].concat();
+    for (number, (step, _)) in lines.into_iter().enumerate() {
+        assert!(seen.insert(step), "line {number}");
     }
 }
 

@@ -9,7 +9,7 @@ use std::fmt;
 /// short, cannot occur here.
 #[derive(Clone, Copy, Debug, PartialEq, Eq)]
 pub enum RightsRefusal {
-    /// 7: an extension is not well formed, or the rights of a known one have another size.
+    /// 7: an extension is not well formed, or the rights of a known one have the wrong size.
     BadExtension,
     /// 8: a known extension stands in a certificate for the second time.
     SecondExtension,
@@ -42,7 +42,8 @@ impl fmt::Display for RightsRefusal {
     fn fmt(&self, f: &mut fmt::Formatter<'_>) -> fmt::Result {
         f.write_str(match self {
             Self::BadExtension => {
-                "an extension is not well formed, or its rights have another size"
+                "an extension is not well formed, \
+                 or the rights of a known one have the wrong size"
             }
             Self::SecondExtension => "a certificate has a known extension twice",
             Self::Unknown(number) => return write!(f, "refusal {number}, which is not known here"),
@@ -59,7 +60,8 @@ impl std::error::Error for RightsRefusal {}
 /// known and stand in any order; any other is passed over, whatever rights it has. What is absent
 /// is zero. A certificate without extensions is the empty run.
 ///
-/// Where one of the three is refused there are no rights at all, even if the others are in order.
+/// Where one of the three is refused there are no rights at all, even if the others are without a
+/// fault.
 ///
 /// ```
 /// use malquindo::RightsRefusal;

@@ -197,7 +197,7 @@ pub fn index_read(body: &[u8], places: &[u32], number: usize) -> u64 {
 /// so on. The bytes behind these 60 stay.
 ///
 /// Refusal 7 is for bytes that are no whole extension, and for a known one whose rights have
-/// another size. Refusal 8 is for a known one that its run had before. The first faulty extension
+/// the wrong size. Refusal 8 is for a known one that its run had before. The first faulty extension
 /// is told, 7 before 8, and 60 zeros are written, for a refused chain must open nothing.
 ///
 /// A buffer of fewer than 60 bytes is refusal 1, before all, and stays untouched. The result is

@@ -791,7 +791,7 @@ fn the_first_run_first() {
 enum Kind {
     /// A known one of the right size, by its number in the list of the known.
     Right(usize),
-    /// A known one of another size.
+    /// A known one of the wrong size.
     Wrong(usize),
     Unknown,
     /// Not `06` then `53`.

@@ -5,35 +5,38 @@ use borrow.Author.Needs.{needs}
 use Rattle.objects_extensions.proofs.keep_known.Statement.{statement}
 use Rattle.objects_extensions.proofs.keep_known.Tie as tie
 
-size-requires : tie.Need-size-requires
-size-requires c κs = search needs
-
-returns : tie.Need-returns
-returns c = gave (keep-size _ _ _ (c .before .size .ensures) (c .if1 .taken))
-
 byte-requires : tie.Need-byte-requires
 byte-requires c κs = search needs
+
+size-requires : tie.Need-size-requires
+size-requires c κs = search needs
 
 flag-requires : tie.Need-flag-requires
 flag-requires c κs = search needs
 
-div-if2 : tie.Need-div-if2
-div-if2 c = flag-divides (c .before .before .before .before .before .before .before .args .k) (c .flag .ensures)
+div-there : tie.Need-div-there
+div-there c = flag-divides (c .before .before .before .before .before .before .args .k) (c .flag .ensures)
 
 same-length : tie.Need-same-length
 same-length c = search needs
 
+returns : tie.Need-returns
+returns c = gave (keep-size _ _ _ (c .before .before .size .ensures) (c .if1 .taken))
+
+same-length-2 : tie.Need-same-length-2
+same-length-2 c = search needs
+
 returns-2 : tie.Need-returns-2
-returns-2 c = gave (keep-twice _ _ _ (c .before .before .before .before .before .size .ensures) (c .before .before .before .before .if1 .left) (c .before .before .byte .ensures .0) (c .before .flag .ensures) (c .if2 .taken))
+returns-2 c = gave (keep-twice _ _ _ (c .before .before .before .size .ensures) (c .before .if1 .left) (c .before .before .before .before .byte .ensures .0) (c .before .before .flag .ensures) (c .if2 .taken))
 
 flag-requires-2 : tie.Need-flag-requires-2
 flag-requires-2 c κs = search needs
 
-add-t7 : tie.Need-add-t7
-add-t7 c = let h = flag-added (c .before .before .before .before .before .before .before .before .before .args .k) (c .before .before .flag .ensures) (c .flag2 .ensures) (c .before .before .before .byte .ensures .1) (c .before .if2 .left) in omega arith
+add-t11 : tie.Need-add-t11
+add-t11 c = let h = flag-added (c .before .before .before .before .before .before .before .before .before .args .k) (c .before .before .before .flag .ensures) (c .flag2 .ensures) (c .before .before .before .before .before .byte .ensures .1) (c .before .if2 .left) in omega arith
 
-cast-t14 : tie.Need-cast-t14
-cast-t14 c = let h = flag-added (c .before .before .before .before .before .before .before .before .before .args .k) (c .before .before .flag .ensures) (c .flag2 .ensures) (c .before .before .before .byte .ensures .1) (c .before .if2 .left) in omega arith
+cast-t16 : tie.Need-cast-t16
+cast-t16 c = let h = flag-added (c .before .before .before .before .before .before .before .before .before .args .k) (c .before .before .before .flag .ensures) (c .flag2 .ensures) (c .before .before .before .before .before .byte .ensures .1) (c .before .if2 .left) in omega arith
 
 slice-aggregate-put : tie.Need-slice-aggregate-put
 slice-aggregate-put c = search needs
@@ -47,29 +50,30 @@ place-requires c κs = search needs
 put-requires-2 : tie.Need-put-requires-2
 put-requires-2 c κs = search needs
 
-same-length-2 : tie.Need-same-length-2
-same-length-2 c = search needs
+same-length-3 : tie.Need-same-length-3
+same-length-3 c = search needs
 
 returns-3 : tie.Need-returns-3
-returns-3 c = gave (keep-put _ _ _ (c .before .before .before .before .before .before .before .before .before .before .before .before .before .before .before .before .size .ensures) (c .before .before .before .before .before .before .before .before .before .before .before .before .before .before .before .if1 .left) (c .before .before .before .before .before .before .before .before .before .before .before .before .before .byte .ensures .0) (c .before .before .before .before .before .before .before .before .before .before .before .before .flag .ensures) (c .before .before .before .before .before .before .before .before .before .before .before .if2 .left) (c .before .before .before .before .before .before .before .before .before .before .flag2 .ensures) (c .before .before .before .before .before .before .before .put .ensures .1) (c .before .before .before .place .ensures) (c .before .before .put2 .ensures .1))
+returns-3 c = gave (keep-put _ _ _ (c .before .before .before .before .before .before .before .before .before .before .before .before .before .before .size .ensures) (c .before .before .before .before .before .before .before .before .before .before .before .before .if1 .left) (c .before .before .before .before .before .before .before .before .before .before .before .before .before .before .before .byte .ensures .0) (c .before .before .before .before .before .before .before .before .before .before .before .before .before .flag .ensures) (c .before .before .before .before .before .before .before .before .before .before .before .if2 .left) (c .before .before .before .before .before .before .before .before .before .before .flag2 .ensures) (c .before .before .before .before .before .before .before .put .ensures .1) (c .before .before .before .place .ensures) (c .before .before .put2 .ensures .1))
 
 pub keep-known-spec : {M : Type 1} → statement M
 keep-known-spec =
     tie.close
     (tie.spec
-    size-requires
-    returns
     byte-requires
+    size-requires
     flag-requires
-    div-if2
+    div-there
     same-length
+    returns
+    same-length-2
     returns-2
     flag-requires-2
-    add-t7
-    cast-t14
+    add-t11
+    cast-t16
     slice-aggregate-put
     put-requires
     place-requires
     put-requires-2
-    same-length-2
+    same-length-3
     returns-3)
