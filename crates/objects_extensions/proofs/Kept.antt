@@ -1,18 +1,18 @@
--- One extension upon the certificate that those before it give: it adds its flag and its rights, or tells its fault. Read before:
+-- One extension, put into the certificate that those before it give: it adds its flag and its rights, or tells its fault. Read before:
 -- specs/Extensions.antt, specs/Faults.antt. Exports `Filled`, `filled-none`, `filled-next`, `none-given`, `flag-is`, `keep-free`, `keep-fault`,
 -- `free-or-fault`.
-use Prim.Native.Nat.{ℕ, suc, _+_, _/_, _%_, _*_, _≤_, _<_}
+use Prim.Native.Nat.{ℕ, _+_, _/_, _%_, _*_, _<_}
 use mathlib.Core.Path.{_≡_, refl, sym, ap, _∙_}
 use mathlib.Core.Bool.{Bool, true, false}
 use mathlib.Core.Logic.{_⊎_, inl, inr, ⊎-elim}
 use mathlib.Core.List.{List, [], _∷_, _++_, append-assoc, append-nil}
 use native.Mathlib.Omega.{arith}
 use lib.ListN.{length, getD, drop, replicate, length-append}
-use lib.Seq.{sets, sets-eq, take-at, drop-at}
+use lib.Seq.{sets-eq, take-at, drop-at}
 use lib.Dec.{eqb}
 use borrow.Author.Tests.{eq-eqb, ne-eqb, eqb-true, eqb-false}
 use Rattle.base.specs.Choice.{ifElse}
-use Rattle.base.specs.Bytes.{sameBytes, put}
+use Rattle.base.specs.Bytes.{put}
 use Rattle.base.proofs.Cases.{by-cases, false-true}
 use Rattle.base.proofs.Same.{same-equal}
 use Rattle.base.proofs.Runs.{put-accepted}
@@ -20,9 +20,9 @@ use Rattle.objects_extensions.specs.declared.Known.{Known}
 use Rattle.objects_extensions.specs.declared.Known.the-variants.{Travel, Visa, Biometrics}
 use Rattle.objects_extensions.specs.declared.ExtensionFault.{ExtensionFault}
 use Rattle.objects_extensions.specs.declared.ExtensionFault.the-variants.{Malformed, Twice}
-use Rattle.objects_extensions.specs.Extensions.{Extension, Sayable, identifierOf, sizeOf, flagOf, isFor, hasFor, rightsFor, flagFor, certificateData, RightSize, FirstTime}
-use Rattle.objects_extensions.specs.Faults.{WrongSize, SecondTime, FaultOf, by-size, by-repeat}
-use Rattle.objects_extensions.specs.Read.{RunResult, whole, faulty, rightsPlace, keepsKnown, keeps}
+use Rattle.objects_extensions.specs.Extensions.{Extension, identifierOf, sizeOf, flagOf, isFor, hasFor, rightsFor, flagFor, certificateData, RightSize, FirstTime}
+use Rattle.objects_extensions.specs.Faults.{FaultOf, by-size, by-repeat}
+use Rattle.objects_extensions.specs.Read.{whole, faulty, rightsPlace, keepsKnown, keeps}
 
 -- ---- which extension it is
 

@@ -9,9 +9,8 @@ use mathlib.Core.List.{List, [], _∷_, _++_, append-nil, append-assoc}
 use native.Mathlib.Omega.{arith}
 use lib.ListN.{length, drop, take, length-append, take-append-drop}
 use lib.Seq.{take-at, drop-at}
-use lib.Dec.{eqb, lit<}
-use borrow.Author.Tests.{ne-eqb, eqb-true, eqb-false}
-use Rattle.base.specs.Choice.{ifElse}
+use lib.Dec.{lit<}
+use borrow.Author.Tests.{ne-eqb}
 use Rattle.base.specs.Bytes.{part, AllBytes}
 use Rattle.base.proofs.Cases.{by-cases, false-true}
 use Rattle.objects_writer.specs.Writing.{tlv, tagBytes}

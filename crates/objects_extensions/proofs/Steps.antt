@@ -8,7 +8,6 @@ use lib.ListN.{length, getD, take, drop, length-drop, drop-of-length-le}
 use lib.Seq.{drop-drop}
 use lib.Dec.{ltb, eqb}
 use borrow.Author.Tests.{ne-eqb, eqb-false}
-use Rattle.base.specs.Choice.{ifElse}
 use Rattle.base.specs.Bytes.{sameBytes, part, put}
 use Rattle.base.proofs.Cases.{ifElse-ind, flag-refused, flag-accepted}
 use Rattle.base.proofs.Parts.{rest}
@@ -144,7 +143,7 @@ head-starts : (s : List ℕ) → Starts (headOf 0x73 s)
 unfolding headOf
 head-starts s = ifElse-ind Starts (ltb (length s) 1) (λ e. tt) (λ e. ifElse-ind Starts (eqb (getD s 0 0) 0x73) (λ f. past-starts (lengthOf (drop 1 s))) (λ f. tt))
 
--- upon c₀ the run s gives what its rest from `at` on gives upon c
+-- the run s, put into c₀, gives what its rest from `at` on gives, put into c
 pub record Walking (c₀ s c : List ℕ) (at : ℕ) : Type 0 where
   pub fuel : ℕ
   pub enough : length s ≤ at + fuel

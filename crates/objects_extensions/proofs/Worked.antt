@@ -10,7 +10,7 @@ use Rattle.objects_reader.specs.Head.{headOf, lengthOf}
 use Rattle.objects_extensions.specs.declared.ExtensionFault.the-variants.{Malformed, Twice}
 use Rattle.objects_extensions.specs.declared.RunRead.the-variants.{Whole, Faulty}
 use Rattle.objects_extensions.specs.declared.RightsRead.the-variants.{Told, ShortBuffer}
-use Rattle.objects_extensions.specs.Extensions.{Extension, extensionValue, extensionData, runData}
+use Rattle.objects_extensions.specs.Extensions.{extensionValue, extensionData, runData}
 use Rattle.objects_extensions.specs.Read.{whole, keepsKnown, keeps, extensionOn, runIn, runOn, emptyCertificate, runsOn, chainData, readRights, readRightsInto}
 
 -- the bytes of a certificate's extension for travel, as they would stand in it

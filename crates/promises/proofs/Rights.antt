@@ -34,7 +34,7 @@ use Rattle.machine_session_bytes.specs.Layout.{placeBytes, sessionBytes, sessio
 use Rattle.machine.specs.Step.{opening}
 use Rattle.malquindo.specs.Face.{rightsResult, openSession}
 use Rattle.promises.specs.Linked.{refusalIn}
-use Rattle.promises.specs.Rights.{RightsC, C-rights, CertificateFor, C-rights-read, NoRight, OpenedRefused, C-rights-refused}
+use Rattle.promises.specs.Rights.{RightsC, C-rights, CertificateFor, C-rights-read, NoRight, C-rights-refused}
 use Rattle.promises.proofs.Opening.{zeros}
 use Rattle.promises.proofs.Linking.{opening-bytes}
 

@@ -1,4 +1,4 @@
--- `run` goes along the extensions. Invariant (`Walking`): the run gives what its rest gives upon the bytes so far. Measure: the bytes left.
+-- `run` goes along the extensions. Invariant (`Walking`): the run gives what its rest gives, put into the bytes so far. Measure: the bytes left.
 use Prim.Native.Nat.{_-_, _≤_}
 use mathlib.Core.Path.{_≡_, refl}
 use native.Mathlib.Omega.{arith}
