@@ -9,13 +9,33 @@ pub(crate) fn usage() {
     all();
 }
 
-// The lines that are read, an example and a few words for each.
+// The lines that are read, an example and a few words for each: first a command, and those that open a session.
 pub(crate) fn all() {
     program_console::word(
         b"Each line is answered. Spaces may stand anywhere in hexadecimal; # starts a comment.\n",
     );
     program_console::word(b"  00 B2 01 0C 00 00 00        a command, in hexadecimal\n");
-    openings();
+    program_console::word(
+        b"  open all                    opens a session with every right; `open none` with none\n",
+    );
+    program_console::word(b"  open travel=read,append visa=read biometrics5=write\n");
+    program_console::word(
+        b"                              opens a session with what a certificate would grant\n",
+    );
+    program_console::word(
+        b"  open FFFF ... FF            opens a session with three certificates, 60 bytes in hexadecimal\n",
+    );
+    program_console::word(
+        b"  certificates RUN RUN RUN    opens a session with the rights in the extensions of three certificates, and says which these are\n",
+    );
+    program_console::word(
+        b"                              (a run is hexadecimal without spaces, `-` without extensions; refused, the session has no rights)\n",
+    );
+    others();
+}
+
+// The other lines, which open no session.
+fn others() {
     program_console::word(b"  rights                      says what the session may do\n");
     program_console::word(
         b"  session                     says the session's application, file and record\n",
@@ -36,26 +56,6 @@ pub(crate) fn all() {
     );
     program_console::word(b"  help                        writes this\n");
     grants();
-}
-
-// The lines that open a session.
-fn openings() {
-    program_console::word(
-        b"  open all                    opens a session with every right; `open none` with none\n",
-    );
-    program_console::word(b"  open travel=read,append visa=read biometrics5=write\n");
-    program_console::word(
-        b"                              opens a session with what a certificate would grant\n",
-    );
-    program_console::word(
-        b"  open FFFF ... FF            opens a session with three certificates, 60 bytes in hexadecimal\n",
-    );
-    program_console::word(
-        b"  certificates RUN RUN RUN    opens a session with the rights in the extensions of three certificates, and says which these are\n",
-    );
-    program_console::word(
-        b"                              (a run is hexadecimal without spaces, `-` without extensions; refused, the session has no rights)\n",
-    );
 }
 
 // The words that `open` takes.
