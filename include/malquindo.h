@@ -69,14 +69,15 @@ size_t malquindo_session_len(void);
  * run may have any length. For a certificate without extensions it is 0; the pointer is still not null. An extension is the
  * object 73 with two objects in it: 06, the identifier, and then 53, the rights. Three identifiers are known: 67 81 08 01 01 09
  * 01 03 (travel, rights of 1 byte), the same with 02 03 at its end (visa, 1 byte) and with 03 03 (biometrics, 17 bytes). They
- * may stand in any order. An extension with any other identifier, of any length, even 0, is passed over, whatever rights it has.
+ * may stand in any order. An extension with any other identifier, of any length, even 0, is passed over, whatever rights it
+ * has; it may stand there more than once.
  *
  * 0: the first MALQUINDO_RIGHTS_LEN bytes of the buffer are the rights, 20 bytes for each certificate: a flag for each known
  * extension that is there (b1 travel, b2 visa, b3 biometrics), the travel byte, the visa byte, 17 bytes of biometrics. The
  * rights stand as in the certificate; what is absent is zero. Bytes behind them stay as they came.
  *
  * Refusal 1, before all: rights_len is below MALQUINDO_RIGHTS_LEN. The buffer then stays as it came. Refusals 7 and 8 tell of
- * the first extension at fault; those of the first run come first. Where both are true of it, 7 is told. The first
+ * the first extension at fault in the first run that has one. Where both are true of it, 7 is told. The first
  * MALQUINDO_RIGHTS_LEN bytes of the buffer are then zero, even where another run has no fault: opening with them gives no
  * rights. Refusal 7 has these reasons: the tag is not 73; a length goes past the end, or is none of 00 to 7F, 81 80 to 81 FF and
  * 82 01 00 to 82 FF FF; the value of 73, known or not, is not exactly 06 and then 53; the rights of a known extension have the

@@ -45,14 +45,14 @@ LINE = 65536
 MUCH = 524288
 
 HELP = """\
-Each line is answered. Spaces may stand anywhere in hexadecimal; # starts a comment.
+Each line is answered. Spaces may stand anywhere in a command and in the bytes of `open`; # starts a comment.
   00 B2 01 0C 00 00 00        a command, in hexadecimal
   open all                    opens a session with every right; `open none` with none
   open travel=read,append visa=read biometrics5=write
                               opens a session with what a certificate would grant
   open FFFF ... FF            opens a session with three certificates, 60 bytes in hexadecimal
   certificates RUN RUN RUN    opens a session with the rights in the extensions of three certificates, and says which these are
-                              (a run is hexadecimal without spaces, `-` without extensions; refused, the session has no rights)
+                              (a run is hexadecimal without spaces, `-` for none; refused, the session has no rights)
   rights                      says what the session may do
   session                     says the session's application, file and record
   show                        lists what the card holds

@@ -10,6 +10,7 @@ use native.Mathlib.Omega.{arith}
 use lib.ListN.{length, getD, drop, replicate, length-append}
 use lib.Seq.{sets-eq, take-at, drop-at}
 use lib.Dec.{eqb}
+use lib.Bits.{bitOr}
 use borrow.Author.Tests.{eq-eqb, ne-eqb, eqb-true, eqb-false}
 use Rattle.base.specs.Choice.{ifElse}
 use Rattle.base.specs.Bytes.{put}
@@ -133,6 +134,25 @@ flag-is k es = ap (λ (x : ℕ). eqb x 1) (of k) ∙ is-set (hasFor k es)
     of Visa = omega (arith, times (hasFor Travel es) 1, times (hasFor Visa es) 2, times (hasFor Biometrics es) 4, below (hasFor Travel es), below (hasFor Visa es))
     of Biometrics = omega (arith, times (hasFor Travel es) 1, times (hasFor Visa es) 2, times (hasFor Biometrics es) 4, below (hasFor Travel es), below (hasFor Visa es), below (hasFor Biometrics es))
 
+-- a flag that is set among those of the other two
+set-travel : (b c : Bool) → bitOr (0 + ifElse b 2 0 + ifElse c 4 0) 1 ≡ 1 + ifElse b 2 0 + ifElse c 4 0
+set-travel true true = refl
+set-travel true false = refl
+set-travel false true = refl
+set-travel false false = refl
+
+set-visa : (a c : Bool) → bitOr (ifElse a 1 0 + 0 + ifElse c 4 0) 2 ≡ ifElse a 1 0 + 2 + ifElse c 4 0
+set-visa true true = refl
+set-visa true false = refl
+set-visa false true = refl
+set-visa false false = refl
+
+set-biometrics : (a b : Bool) → bitOr (ifElse a 1 0 + ifElse b 2 0 + 0) 4 ≡ ifElse a 1 0 + ifElse b 2 0 + 4
+set-biometrics true true = refl
+set-biometrics true false = refl
+set-biometrics false true = refl
+set-biometrics false false = refl
+
 -- ---- bytes put in the place of others
 
 -- v in the place of m, which is as long
@@ -173,7 +193,7 @@ nextData es e =
     ++ (ifElse (isFor Visa e) (e .rights) (rightsFor Visa es) ++ ifElse (isFor Biometrics e) (e .rights) (rightsFor Biometrics es)))
 
 put-known : (es : List Extension) (e : Extension) (k : Known) → length (e .rights) ≡ sizeOf k → hasFor k es ≡ false
-    → keepsKnown k (certificateData es) (e .rights) ≡ whole (put (put (certificateData es) 0 ((getD (certificateData es) 0 0 + flagOf k) ∷ [])) (rightsPlace k) (e .rights))
+    → keepsKnown k (certificateData es) (e .rights) ≡ whole (put (put (certificateData es) 0 (bitOr (getD (certificateData es) 0 0) (flagOf k) ∷ [])) (rightsPlace k) (e .rights))
 unfolding keepsKnown
 put-known es e k z n = simp (eq-eqb (length (e .rights)) (sizeOf k) z, flag-is k es ∙ n)
 
@@ -192,9 +212,9 @@ module _ (es : List Extension) (e : Extension) where
         rw (flag-next Travel, flag-next Visa, flag-next Biometrics, rights-next Travel e es (n Travel), rights-next Visa e es (n Visa), rights-next Biometrics e es (n Biometrics)) refl
 
     next-put : (k : Known) → isFor k e ≡ true
-        → put (put (certificateData es) 0 ((getD (certificateData es) 0 0 + flagOf k) ∷ [])) (rightsPlace k) (e .rights) ≡ certificateData (es ++ (e ∷ []))
+        → put (put (certificateData es) 0 (bitOr (getD (certificateData es) 0 0) (flagOf k) ∷ [])) (rightsPlace k) (e .rights) ≡ certificateData (es ++ (e ∷ []))
     unfolding certificateData
-    next-put k a = rw (marked F (F + flagOf k) X Y Z (e .rights) (f Travel) (f Visa) (f Biometrics)) (of k a ∙ sym next-data)
+    next-put k a = rw (marked F (bitOr F (flagOf k)) X Y Z (e .rights) (f Travel) (f Visa) (f Biometrics)) (of k a ∙ sym next-data)
       where
         X : List ℕ
         X = rightsFor Travel es
@@ -208,16 +228,16 @@ module _ (es : List Extension) (e : Extension) where
         F : ℕ
         F = flagFor Travel es + flagFor Visa es + flagFor Biometrics es
 
-        of : (k : Known) → isFor k e ≡ true → put ((F + flagOf k) ∷ (X ++ (Y ++ Z))) (rightsPlace k) (e .rights) ≡ nextData es e
+        of : (k : Known) → isFor k e ≡ true → put (bitOr F (flagOf k) ∷ (X ++ (Y ++ Z))) (rightsPlace k) (e .rights) ≡ nextData es e
         of Travel a =
-            put-travel F (F + 1) X Y Z (e .rights) (f Travel) (f Visa) (f Biometrics) (z Travel a)
-            ∙ simp (a, for-other e Visa Travel (λ y. omega arith) a, for-other e Biometrics Travel (λ y. omega arith) a, n Travel a) (ap (λ (x : ℕ). x ∷ (e .rights ++ (Y ++ Z))) (omega arith))
+            put-travel F (bitOr F 1) X Y Z (e .rights) (f Travel) (f Visa) (f Biometrics) (z Travel a)
+            ∙ simp (a, for-other e Visa Travel (λ y. omega arith) a, for-other e Biometrics Travel (λ y. omega arith) a, n Travel a) (ap (λ (x : ℕ). x ∷ (e .rights ++ (Y ++ Z))) (set-travel (hasFor Visa es) (hasFor Biometrics es)))
         of Visa a =
-            put-visa F (F + 2) X Y Z (e .rights) (f Travel) (f Visa) (f Biometrics) (z Visa a)
-            ∙ simp (a, for-other e Travel Visa (λ y. omega arith) a, for-other e Biometrics Visa (λ y. omega arith) a, n Visa a) (ap (λ (x : ℕ). x ∷ (X ++ (e .rights ++ Z))) (omega arith))
+            put-visa F (bitOr F 2) X Y Z (e .rights) (f Travel) (f Visa) (f Biometrics) (z Visa a)
+            ∙ simp (a, for-other e Travel Visa (λ y. omega arith) a, for-other e Biometrics Visa (λ y. omega arith) a, n Visa a) (ap (λ (x : ℕ). x ∷ (X ++ (e .rights ++ Z))) (set-visa (hasFor Travel es) (hasFor Biometrics es)))
         of Biometrics a =
-            put-biometrics F (F + 4) X Y Z (e .rights) (f Travel) (f Visa) (f Biometrics) (z Biometrics a)
-            ∙ simp (a, for-other e Travel Biometrics (λ y. omega arith) a, for-other e Visa Biometrics (λ y. omega arith) a, n Biometrics a) (ap (λ (x : ℕ). x ∷ (X ++ (Y ++ e .rights))) (omega arith))
+            put-biometrics F (bitOr F 4) X Y Z (e .rights) (f Travel) (f Visa) (f Biometrics) (z Biometrics a)
+            ∙ simp (a, for-other e Travel Biometrics (λ y. omega arith) a, for-other e Visa Biometrics (λ y. omega arith) a, n Biometrics a) (ap (λ (x : ℕ). x ∷ (X ++ (Y ++ e .rights))) (set-biometrics (hasFor Travel es) (hasFor Visa es)))
 
     -- one without a fault adds its flag and its rights, and one that is not known adds nothing
     pub keep-free : keeps (certificateData es) e ≡ whole (certificateData (es ++ (e ∷ [])))

@@ -7,7 +7,8 @@ use native.Mathlib.Omega.{arith}
 use lib.ListN.{length, getD, take, drop, length-drop, drop-of-length-le}
 use lib.Seq.{drop-drop}
 use lib.Dec.{ltb, eqb}
-use borrow.Author.Tests.{ne-eqb, eqb-false}
+use lib.Bits.{bitOr, or-lt}
+use borrow.Author.Tests.{ne-eqb}
 use Rattle.base.specs.Bytes.{sameBytes, part, put}
 use Rattle.base.proofs.Cases.{ifElse-ind, flag-refused, flag-accepted}
 use Rattle.base.proofs.Parts.{rest}
@@ -50,23 +51,18 @@ faulty-by {r} {w} e = sym (ap isWhole e ∙ not-whole w)
 
 -- ---- a known extension
 
-flag-fits : (k : Known) (x : ℕ) → x < 256 → (x / flagOf k % 2 ≡ 1 → ⊥) → x + flagOf k < 256
-flag-fits Travel x h n = omega (arith, n)
-flag-fits Visa x h n = omega (arith, n)
-flag-fits Biometrics x h n = omega (arith, n)
+flag-range : (k : Known) → (0 < flagOf k) × (flagOf k < 256)
+flag-range Travel = (omega arith, omega arith)
+flag-range Visa = (omega arith, omega arith)
+flag-range Biometrics = (omega arith, omega arith)
 
-flag-some : (k : Known) → 0 < flagOf k
-flag-some Travel = omega arith
-flag-some Visa = omega arith
-flag-some Biometrics = omega arith
-
--- the flag can be divided by, and is added to flags without it
+-- the flag can be divided by, and flags with it are a byte
 module _ (k : Known) {y : ℕ} (e : y ≡ flagOf k) where
   pub flag-divides : 0 < y
-  flag-divides = rw e (flag-some k)
+  flag-divides = rw e (flag-range k .0)
 
-  pub flag-added : {x z : ℕ} → z ≡ flagOf k → x < 256 → eqb (x / y % 2) 1 ≡ false → x + z < 256
-  flag-added {x} i h n = rw i (flag-fits k x h (rw e at (eqb-false (x / y % 2) 1 n)))
+  pub flag-set : {x : ℕ} → x < 256 → bitOr x y < 256
+  flag-set {x} h = rw e (or-lt 8 x (flagOf k) h (flag-range k .1))
 
 module _ (k : Known) (c v : List ℕ) {n : ℕ} (e : n ≡ sizeOf k) where
   same-size : eqb (length v) n ≡ eqb (length v) (sizeOf k)
@@ -84,7 +80,7 @@ module _ (k : Known) (c v : List ℕ) {n : ℕ} (e : n ≡ sizeOf k) where
     unfolding keepsKnown
     keep-twice j = simp (flag-accepted same-size h, same-flag ∙ j)
 
-    pub keep-put : {z p : ℕ} {d g : List ℕ} → eqb (x / y % 2) 1 ≡ false → z ≡ flagOf k → d ≡ put c 0 ((x + z) ∷ []) → p ≡ rightsPlace k → g ≡ put d p v → keepsKnown k c v ≡ whole g
+    pub keep-put : {z p : ℕ} {d g : List ℕ} → eqb (x / y % 2) 1 ≡ false → z ≡ flagOf k → d ≡ put c 0 (bitOr x z ∷ []) → p ≡ rightsPlace k → g ≡ put d p v → keepsKnown k c v ≡ whole g
     unfolding keepsKnown
     keep-put j m a q b = simp (flag-accepted same-size h, same-flag ∙ j) (rw (b, q, a, m, i) refl)
 

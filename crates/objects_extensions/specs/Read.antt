@@ -4,6 +4,7 @@ use mathlib.Core.Bool.{Bool}
 use mathlib.Core.List.{List, [], _∷_, _++_}
 use lib.ListN.{length, getD, drop, replicate}
 use lib.Dec.{ltb, eqb}
+use lib.Bits.{bitOr}
 use Rattle.base.specs.Choice.{ifElse}
 use Rattle.base.specs.Bytes.{part, put}
 use Rattle.objects_reader.specs.Head.{headOf}
@@ -62,7 +63,7 @@ unfoldable pub keepsKnown : Known → List ℕ → List ℕ → RunResult
 keepsKnown k c v =
     let flags = getD c 0 0 in
     ifElse (eqb (length v) (sizeOf k))
-    (ifElse (eqb (flags / flagOf k % 2) 1) (faulty Twice c) (whole (put (put c 0 ((flags + flagOf k) ∷ [])) (rightsPlace k) v)))
+    (ifElse (eqb (flags / flagOf k % 2) 1) (faulty Twice c) (whole (put (put c 0 (bitOr flags (flagOf k) ∷ [])) (rightsPlace k) v)))
     (faulty Malformed c)
 
 -- any extension, put into a certificate's bytes; one that is not known changes nothing [CE3]

@@ -130,7 +130,7 @@ fn keep_known(k: Known, v: &[u8], c: &mut [u8]) -> RunRead
     if there {
         return RunRead::Faulty(ExtensionFault::Twice);
     }
-    let marked = [(flags + flag(k)) as u8];
+    let marked = [(flags | flag(k)) as u8];
     put(c, 0, &marked);
     put(c, place(k), v);
     RunRead::Whole

@@ -12,7 +12,7 @@ pub(crate) fn usage() {
 // The lines that are read, an example and a few words for each: first a command, and those that open a session.
 pub(crate) fn all() {
     program_console::word(
-        b"Each line is answered. Spaces may stand anywhere in hexadecimal; # starts a comment.\n",
+        b"Each line is answered. Spaces may stand anywhere in a command and in the bytes of `open`; # starts a comment.\n",
     );
     program_console::word(b"  00 B2 01 0C 00 00 00        a command, in hexadecimal\n");
     program_console::word(
@@ -29,7 +29,7 @@ pub(crate) fn all() {
         b"  certificates RUN RUN RUN    opens a session with the rights in the extensions of three certificates, and says which these are\n",
     );
     program_console::word(
-        b"                              (a run is hexadecimal without spaces, `-` without extensions; refused, the session has no rights)\n",
+        b"                              (a run is hexadecimal without spaces, `-` for none; refused, the session has no rights)\n",
     );
     others();
 }

@@ -1,6 +1,6 @@
 -- `keep_known` tests size and flag, and puts flag and rights.
 use native.Mathlib.Omega.{arith}
-use Rattle.objects_extensions.proofs.Steps.{gave, flag-divides, flag-added, keep-size, keep-twice, keep-put}
+use Rattle.objects_extensions.proofs.Steps.{gave, flag-divides, flag-set, keep-size, keep-twice, keep-put}
 use borrow.Author.Needs.{needs}
 use Rattle.objects_extensions.proofs.keep_known.Statement.{statement}
 use Rattle.objects_extensions.proofs.keep_known.Tie as tie
@@ -32,11 +32,8 @@ returns-2 c = gave (keep-twice _ _ _ (c .before .before .before .size .ensures) 
 flag-requires-2 : tie.Need-flag-requires-2
 flag-requires-2 c κs = search needs
 
-add-t11 : tie.Need-add-t11
-add-t11 c = let h = flag-added (c .before .before .before .before .before .before .before .before .before .args .k) (c .before .before .before .flag .ensures) (c .flag2 .ensures) (c .before .before .before .before .before .byte .ensures .1) (c .before .if2 .left) in omega arith
-
 cast-t16 : tie.Need-cast-t16
-cast-t16 c = let h = flag-added (c .before .before .before .before .before .before .before .before .before .args .k) (c .before .before .before .flag .ensures) (c .flag2 .ensures) (c .before .before .before .before .before .byte .ensures .1) (c .before .if2 .left) in omega arith
+cast-t16 c = let h = flag-set (c .before .before .before .before .before .before .before .before .before .args .k) (c .flag2 .ensures) (c .before .before .before .before .before .byte .ensures .1) in omega arith
 
 slice-aggregate-put : tie.Need-slice-aggregate-put
 slice-aggregate-put c = search needs
@@ -69,7 +66,6 @@ keep-known-spec =
     same-length-2
     returns-2
     flag-requires-2
-    add-t11
     cast-t16
     slice-aggregate-put
     put-requires
