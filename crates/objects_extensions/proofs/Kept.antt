@@ -6,11 +6,12 @@ use mathlib.Core.Path.{_≡_, refl, sym, ap, _∙_}
 use mathlib.Core.Bool.{Bool, true, false}
 use mathlib.Core.Logic.{_⊎_, inl, inr, ⊎-elim}
 use mathlib.Core.List.{List, [], _∷_, _++_, append-assoc, append-nil}
+use native.Mathlib.Nat.{zero-mul}
 use native.Mathlib.Omega.{arith}
 use lib.ListN.{length, getD, drop, replicate, length-append}
 use lib.Seq.{sets-eq, take-at, drop-at}
 use lib.Dec.{eqb}
-use lib.Bits.{bitOr}
+use lib.Bits.{bitAnd, bitOr, or-disjoint, and-high}
 use borrow.Author.Tests.{eq-eqb, ne-eqb, eqb-true, eqb-false}
 use Rattle.base.specs.Choice.{ifElse}
 use Rattle.base.specs.Bytes.{put}
@@ -23,28 +24,37 @@ use Rattle.objects_extensions.specs.declared.ExtensionFault.{ExtensionFa
 use Rattle.objects_extensions.specs.declared.ExtensionFault.the-variants.{Malformed, Twice}
 use Rattle.objects_extensions.specs.Extensions.{Extension, identifierOf, sizeOf, flagOf, isFor, hasFor, rightsFor, flagFor, certificateData, RightSize, FirstTime}
 use Rattle.objects_extensions.specs.Faults.{FaultOf, by-size, by-repeat}
-use Rattle.objects_extensions.specs.Read.{whole, faulty, rightsPlace, keepsKnown, keeps}
+use Rattle.objects_extensions.specs.Read.{whole, faulty, rightsPlace, hasFlag, withKnown, keepsKnown, keeps}
 
 -- ---- which extension it is
 
-identifier-injective : (j k : Known) → identifierOf j ≡ identifierOf k → j ≡ k
-identifier-injective Travel Travel e = refl
-identifier-injective Visa Visa e = refl
-identifier-injective Biometrics Biometrics e = refl
-identifier-injective Travel Visa e = let z : _≡_ {A = ℕ} 1 2 = ap (λ (l : List ℕ). getD l 6 0) e in absurd (omega arith)
-identifier-injective Travel Biometrics e = let z : _≡_ {A = ℕ} 1 3 = ap (λ (l : List ℕ). getD l 6 0) e in absurd (omega arith)
-identifier-injective Visa Travel e = let z : _≡_ {A = ℕ} 2 1 = ap (λ (l : List ℕ). getD l 6 0) e in absurd (omega arith)
-identifier-injective Visa Biometrics e = let z : _≡_ {A = ℕ} 2 3 = ap (λ (l : List ℕ). getD l 6 0) e in absurd (omega arith)
-identifier-injective Biometrics Travel e = let z : _≡_ {A = ℕ} 3 1 = ap (λ (l : List ℕ). getD l 6 0) e in absurd (omega arith)
-identifier-injective Biometrics Visa e = let z : _≡_ {A = ℕ} 3 2 = ap (λ (l : List ℕ). getD l 6 0) e in absurd (omega arith)
+-- which one it is, by its flag or by the last byte but one of its identifier
+abbrev knownBy : ℕ → Known
+knownBy n = ifElse (eqb n 1) Travel (ifElse (eqb n 2) Visa Biometrics)
+
+by-flag : (k : Known) → knownBy (flagOf k) ≡ k
+by-flag Travel = refl
+by-flag Visa = refl
+by-flag Biometrics = refl
+
+by-identifier : (k : Known) → knownBy (getD (identifierOf k) 6 0) ≡ k
+by-identifier Travel = refl
+by-identifier Visa = refl
+by-identifier Biometrics = refl
 
 -- an extension is for one at most
 for-one : (e : Extension) (j k : Known) → isFor j e ≡ true → isFor k e ≡ true → j ≡ k
-for-one e j k f g = identifier-injective j k (sym (same-equal (e .identifier) (identifierOf j) f) ∙ same-equal (e .identifier) (identifierOf k) g)
+for-one e j k f g =
+    let i : identifierOf j ≡ identifierOf k = sym (same-equal (e .identifier) (identifierOf j) f) ∙ same-equal (e .identifier) (identifierOf k) g in
+    sym (by-identifier j) ∙ ap (λ (l : List ℕ). knownBy (getD l 6 0)) i ∙ by-identifier k
 
--- so it is not for another
-for-other : (e : Extension) (j k : Known) → (flagOf j ≡ flagOf k → ⊥) → isFor k e ≡ true → isFor j e ≡ false
-for-other e j k n g = by-cases (isFor j e) (λ f. absurd (n (ap flagOf (for-one e j k f g)))) (λ f. f)
+-- so it is for no other
+for-only : (e : Extension) (k : Known) → isFor k e ≡ true → (j : Known) → isFor j e ≡ eqb (flagOf j) (flagOf k)
+for-only e k g j =
+    by-cases (isFor j e)
+    (λ f. f ∙ sym (eq-eqb (flagOf j) (flagOf k) (ap flagOf (for-one e j k f g))))
+    (λ f. f ∙ sym (ne-eqb (flagOf j) (flagOf k)
+    (λ z. let i : j ≡ k = sym (by-flag j) ∙ ap knownBy z ∙ by-flag k in false-true (sym f ∙ ap (λ (x : Known). isFor x e) i ∙ g))))
 
 -- what an extension is for, or that it is not known
 known-or-not : (e : Extension) → ((k : Known) × (isFor k e ≡ true)) ⊎ ((k : Known) → isFor k e ≡ false)
@@ -60,10 +70,9 @@ known-or-not e =
 
 keeps-known : (c : List ℕ) (e : Extension) (k : Known) → isFor k e ≡ true → keeps c e ≡ keepsKnown k c (e .rights)
 unfolding keeps
-keeps-known c e Travel f = simp f
-keeps-known c e Visa f = simp (for-other e Travel Visa (λ z. omega arith) f, f)
-keeps-known c e Biometrics f =
-    simp (for-other e Travel Biometrics (λ z. omega arith) f, for-other e Visa Biometrics (λ z. omega arith) f, f)
+keeps-known c e Travel f = let o = for-only e Travel f in simp (o Travel)
+keeps-known c e Visa f = let o = for-only e Visa f in simp (o Travel, o Visa)
+keeps-known c e Biometrics f = let o = for-only e Biometrics f in simp (o Travel, o Visa, o Biometrics)
 
 keeps-unknown : (c : List ℕ) (e : Extension) → ((k : Known) → isFor k e ≡ false) → keeps c e ≡ whole c
 unfolding keeps
@@ -125,7 +134,7 @@ is-set true = refl
 is-set false = refl
 
 -- the flag of an extension is set exactly where one of those before has its identifier
-pub flag-is : (k : Known) (es : List Extension) → eqb (getD (certificateData es) 0 0 / flagOf k % 2) 1 ≡ hasFor k es
+pub flag-is : (k : Known) (es : List Extension) → hasFlag k (certificateData es) ≡ hasFor k es
 unfolding certificateData
 flag-is k es = ap (λ (x : ℕ). eqb x 1) (of k) ∙ is-set (hasFor k es)
   where
@@ -134,24 +143,17 @@ flag-is k es = ap (λ (x : ℕ). eqb x 1) (of k) ∙ is-set (hasFor k es)
     of Visa = omega (arith, times (hasFor Travel es) 1, times (hasFor Visa es) 2, times (hasFor Biometrics es) 4, below (hasFor Travel es), below (hasFor Visa es))
     of Biometrics = omega (arith, times (hasFor Travel es) 1, times (hasFor Visa es) 2, times (hasFor Biometrics es) 4, below (hasFor Travel es), below (hasFor Visa es), below (hasFor Biometrics es))
 
--- a flag that is set among those of the other two
-set-travel : (b c : Bool) → bitOr (0 + ifElse b 2 0 + ifElse c 4 0) 1 ≡ 1 + ifElse b 2 0 + ifElse c 4 0
-set-travel true true = refl
-set-travel true false = refl
-set-travel false true = refl
-set-travel false false = refl
+-- a flag that is not set is added by an or
+flag-or : (k : Known) (c : List ℕ) → hasFlag k c ≡ false → bitOr (getD c 0 0) (flagOf k) ≡ getD c 0 0 + flagOf k
+flag-or k c n = or-disjoint (getD c 0 0) (flagOf k) (of k ∙ ap (λ (x : ℕ). x * flagOf k) unset ∙ zero-mul (flagOf k))
+  where
+    unset : getD c 0 0 / flagOf k % 2 ≡ 0
+    unset = let m = eqb-false (getD c 0 0 / flagOf k % 2) 1 n in omega (arith, m)
 
-set-visa : (a c : Bool) → bitOr (ifElse a 1 0 + 0 + ifElse c 4 0) 2 ≡ ifElse a 1 0 + 2 + ifElse c 4 0
-set-visa true true = refl
-set-visa true false = refl
-set-visa false true = refl
-set-visa false false = refl
-
-set-biometrics : (a b : Bool) → bitOr (ifElse a 1 0 + ifElse b 2 0 + 0) 4 ≡ ifElse a 1 0 + ifElse b 2 0 + 4
-set-biometrics true true = refl
-set-biometrics true false = refl
-set-biometrics false true = refl
-set-biometrics false false = refl
+    of : (k : Known) → bitAnd (getD c 0 0) (flagOf k) ≡ getD c 0 0 / flagOf k % 2 * flagOf k
+    of Travel = and-high (getD c 0 0) 1 0
+    of Visa = and-high (getD c 0 0) 1 1
+    of Biometrics = and-high (getD c 0 0) 1 2
 
 -- ---- bytes put in the place of others
 
@@ -193,7 +195,7 @@ nextData es e =
     ++ (ifElse (isFor Visa e) (e .rights) (rightsFor Visa es) ++ ifElse (isFor Biometrics e) (e .rights) (rightsFor Biometrics es)))
 
 put-known : (es : List Extension) (e : Extension) (k : Known) → length (e .rights) ≡ sizeOf k → hasFor k es ≡ false
-    → keepsKnown k (certificateData es) (e .rights) ≡ whole (put (put (certificateData es) 0 (bitOr (getD (certificateData es) 0 0) (flagOf k) ∷ [])) (rightsPlace k) (e .rights))
+    → keepsKnown k (certificateData es) (e .rights) ≡ whole (withKnown k (certificateData es) (e .rights))
 unfolding keepsKnown
 put-known es e k z n = simp (eq-eqb (length (e .rights)) (sizeOf k) z, flag-is k es ∙ n)
 
@@ -211,10 +213,10 @@ module _ (es : List Extension) (e : Extension) where
     next-data =
         rw (flag-next Travel, flag-next Visa, flag-next Biometrics, rights-next Travel e es (n Travel), rights-next Visa e es (n Visa), rights-next Biometrics e es (n Biometrics)) refl
 
-    next-put : (k : Known) → isFor k e ≡ true
-        → put (put (certificateData es) 0 (bitOr (getD (certificateData es) 0 0) (flagOf k) ∷ [])) (rightsPlace k) (e .rights) ≡ certificateData (es ++ (e ∷ []))
+    next-put : (k : Known) → isFor k e ≡ true → withKnown k (certificateData es) (e .rights) ≡ certificateData (es ++ (e ∷ []))
     unfolding certificateData
-    next-put k a = rw (marked F (bitOr F (flagOf k)) X Y Z (e .rights) (f Travel) (f Visa) (f Biometrics)) (of k a ∙ sym next-data)
+    next-put k a =
+        rw (flag-or k (certificateData es) (flag-is k es ∙ n k a), marked F (F + flagOf k) X Y Z (e .rights) (f Travel) (f Visa) (f Biometrics)) (of k a ∙ sym next-data)
       where
         X : List ℕ
         X = rightsFor Travel es
@@ -228,16 +230,19 @@ module _ (es : List Extension) (e : Extension) where
         F : ℕ
         F = flagFor Travel es + flagFor Visa es + flagFor Biometrics es
 
-        of : (k : Known) → isFor k e ≡ true → put (bitOr F (flagOf k) ∷ (X ++ (Y ++ Z))) (rightsPlace k) (e .rights) ≡ nextData es e
+        of : (k : Known) → isFor k e ≡ true → put ((F + flagOf k) ∷ (X ++ (Y ++ Z))) (rightsPlace k) (e .rights) ≡ nextData es e
         of Travel a =
-            put-travel F (bitOr F 1) X Y Z (e .rights) (f Travel) (f Visa) (f Biometrics) (z Travel a)
-            ∙ simp (a, for-other e Visa Travel (λ y. omega arith) a, for-other e Biometrics Travel (λ y. omega arith) a, n Travel a) (ap (λ (x : ℕ). x ∷ (e .rights ++ (Y ++ Z))) (set-travel (hasFor Visa es) (hasFor Biometrics es)))
+            let o = for-only e Travel a in
+            put-travel F (F + 1) X Y Z (e .rights) (f Travel) (f Visa) (f Biometrics) (z Travel a)
+            ∙ simp (o Travel, o Visa, o Biometrics, n Travel a) (ap (λ (x : ℕ). x ∷ (e .rights ++ (Y ++ Z))) (omega arith))
         of Visa a =
-            put-visa F (bitOr F 2) X Y Z (e .rights) (f Travel) (f Visa) (f Biometrics) (z Visa a)
-            ∙ simp (a, for-other e Travel Visa (λ y. omega arith) a, for-other e Biometrics Visa (λ y. omega arith) a, n Visa a) (ap (λ (x : ℕ). x ∷ (X ++ (e .rights ++ Z))) (set-visa (hasFor Travel es) (hasFor Biometrics es)))
+            let o = for-only e Visa a in
+            put-visa F (F + 2) X Y Z (e .rights) (f Travel) (f Visa) (f Biometrics) (z Visa a)
+            ∙ simp (o Travel, o Visa, o Biometrics, n Visa a) (ap (λ (x : ℕ). x ∷ (X ++ (e .rights ++ Z))) (omega arith))
         of Biometrics a =
-            put-biometrics F (bitOr F 4) X Y Z (e .rights) (f Travel) (f Visa) (f Biometrics) (z Biometrics a)
-            ∙ simp (a, for-other e Travel Biometrics (λ y. omega arith) a, for-other e Visa Biometrics (λ y. omega arith) a, n Biometrics a) (ap (λ (x : ℕ). x ∷ (X ++ (Y ++ e .rights))) (set-biometrics (hasFor Travel es) (hasFor Visa es)))
+            let o = for-only e Biometrics a in
+            put-biometrics F (F + 4) X Y Z (e .rights) (f Travel) (f Visa) (f Biometrics) (z Biometrics a)
+            ∙ simp (o Travel, o Visa, o Biometrics, n Biometrics a) (ap (λ (x : ℕ). x ∷ (X ++ (Y ++ e .rights))) (omega arith))
 
     -- one without a fault adds its flag and its rights, and one that is not known adds nothing
     pub keep-free : keeps (certificateData es) e ≡ whole (certificateData (es ++ (e ∷ [])))

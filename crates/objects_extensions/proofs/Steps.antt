@@ -25,7 +25,7 @@ use Rattle.objects_extensions.specs.declared.ExtensionFault.the-variants
 use Rattle.objects_extensions.specs.declared.RunRead.{RunRead}
 use Rattle.objects_extensions.specs.declared.RunRead.the-variants.{Whole, Faulty}
 use Rattle.objects_extensions.specs.Extensions.{identifierOf, sizeOf, flagOf}
-use Rattle.objects_extensions.specs.Read.{isWhole, RunResult, whole, faulty, onWhole, rightsPlace, keepsKnown, keeps, extensionForm, extensionOn, onFront, runIn, runOn}
+use Rattle.objects_extensions.specs.Read.{isWhole, RunResult, whole, faulty, onWhole, rightsPlace, hasFlag, keepsKnown, keeps, extensionForm, extensionOn, onFront, runIn, runOn}
 use Rattle.objects_extensions.proofs.Runs.{not-whole, run-end}
 
 -- the answer n and the bytes d are those of r
@@ -72,17 +72,14 @@ module _ (k : Known) (c v : List ℕ) {n : ℕ} (e : n ≡ sizeOf k) where
   unfolding keepsKnown
   keep-size h = simp (flag-refused same-size h)
 
-  module _ (h : not (eqb (length v) n) ≡ false) {x y : ℕ} (i : x ≡ getD c 0 0) (f : y ≡ flagOf k) where
-    same-flag : eqb (getD c 0 0 / flagOf k % 2) 1 ≡ eqb (x / y % 2) 1
-    same-flag = rw (i, f) refl
-
-    pub keep-twice : eqb (x / y % 2) 1 ≡ true → keepsKnown k c v ≡ faulty Twice c
+  module _ (h : not (eqb (length v) n) ≡ false) {t : Bool} (f : t ≡ hasFlag k c) where
+    pub keep-twice : t ≡ true → keepsKnown k c v ≡ faulty Twice c
     unfolding keepsKnown
-    keep-twice j = simp (flag-accepted same-size h, same-flag ∙ j)
+    keep-twice j = simp (flag-accepted same-size h, sym f ∙ j)
 
-    pub keep-put : {z p : ℕ} {d g : List ℕ} → eqb (x / y % 2) 1 ≡ false → z ≡ flagOf k → d ≡ put c 0 (bitOr x z ∷ []) → p ≡ rightsPlace k → g ≡ put d p v → keepsKnown k c v ≡ whole g
+    pub keep-put : {x z p : ℕ} {d g : List ℕ} → t ≡ false → x ≡ getD c 0 0 → z ≡ flagOf k → d ≡ put c 0 (bitOr x z ∷ []) → p ≡ rightsPlace k → g ≡ put d p v → keepsKnown k c v ≡ whole g
     unfolding keepsKnown
-    keep-put j m a q b = simp (flag-accepted same-size h, same-flag ∙ j) (rw (b, q, a, m, i) refl)
+    keep-put j i m a q b = simp (flag-accepted same-size h, sym f ∙ j) (rw (b, q, a, m, i) refl)
 
 -- ---- any extension
 

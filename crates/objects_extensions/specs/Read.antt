@@ -57,14 +57,18 @@ rightsPlace Travel = 1
 rightsPlace Visa = 2
 rightsPlace Biometrics = 3
 
--- a known one, put into a certificate's bytes: first its size is tested, then whether its flag is set already; else flag and rights are put
--- [CE4] [CE5] [CE6] [CE8]
+-- a certificate's bytes have its flag, so it was there before [CE6] [B2]
+abbrev pub hasFlag : Known → List ℕ → Bool
+hasFlag k c = eqb (getD c 0 0 / flagOf k % 2) 1
+
+-- a certificate's bytes with its flag and its rights [CE5]
+abbrev pub withKnown : Known → List ℕ → List ℕ → List ℕ
+withKnown k c v = put (put c 0 (bitOr (getD c 0 0) (flagOf k) ∷ [])) (rightsPlace k) v
+
+-- a known one, put into a certificate's bytes: first its size is tested, then whether it was there before [CE4] [CE6] [CE8]
 unfoldable pub keepsKnown : Known → List ℕ → List ℕ → RunResult
 keepsKnown k c v =
-    let flags = getD c 0 0 in
-    ifElse (eqb (length v) (sizeOf k))
-    (ifElse (eqb (flags / flagOf k % 2) 1) (faulty Twice c) (whole (put (put c 0 (bitOr flags (flagOf k) ∷ [])) (rightsPlace k) v)))
-    (faulty Malformed c)
+    ifElse (eqb (length v) (sizeOf k)) (ifElse (hasFlag k c) (faulty Twice c) (whole (withKnown k c v))) (faulty Malformed c)
 
 -- any extension, put into a certificate's bytes; one that is not known changes nothing [CE3]
 unfoldable pub keeps : List ℕ → Extension → RunResult

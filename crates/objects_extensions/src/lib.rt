@@ -5,7 +5,7 @@ ghost use mathlib.Core.Path.{_≡_};
 ghost use lib.ListN.{replicate};
 ghost use Rattle.base.specs.Bytes.{sameBytes, put as putAt};
 ghost use Rattle.objects_extensions.specs.Extensions.{identifierOf, sizeOf, flagOf};
-ghost use Rattle.objects_extensions.specs.Read.{isWhole, rightsPlace, keepsKnown, keeps, extensionOn, runOn, readRights, readRightsInto};
+ghost use Rattle.objects_extensions.specs.Read.{isWhole, rightsPlace, hasFlag, keepsKnown, keeps, extensionOn, runOn, readRights, readRightsInto};
 ghost use Rattle.objects_extensions.specs.declared.RightsRead.the-variants.{Told};
 use base::byte;
 use base::part;
@@ -107,6 +107,13 @@ fn place(k: Known) -> usize
     }
 }
 
+// Whether a certificate's bytes have its flag.
+fn has_flag(c: &[u8], k: Known) -> bool
+    ensures { λ r. ⌜ r ≡ hasFlag k (now (c .entry)) ⌝ }
+{
+    byte(c, 0) / flag(k) % 2 == 1
+}
+
 // Whether there is no fault.
 fn is_whole(r: RunRead) -> bool
     ensures { λ q. ⌜ q ≡ isWhole r ⌝ }
@@ -121,16 +128,15 @@ fn is_whole(r: RunRead) -> bool
 fn keep_known(k: Known, v: &[u8], c: &mut [u8]) -> RunRead
     ensures { λ r. ⌜ (r ≡ keepsKnown k (now (c .entry)) (now (v .entry)) .read) × (now (c .exit) ≡ keepsKnown k (now (c .entry)) (now (v .entry)) .bytes) ⌝ }
 {
-    let flags = byte(c, 0);
     let other_size = v.len() != size(k);
-    let there = flags / flag(k) % 2 == 1;
+    let there = has_flag(c, k);
     if other_size {
         return RunRead::Faulty(ExtensionFault::Malformed); // 7 comes before 8
     }
     if there {
         return RunRead::Faulty(ExtensionFault::Twice);
     }
-    let marked = [(flags | flag(k)) as u8];
+    let marked = [(byte(c, 0) | flag(k)) as u8];
     put(c, 0, &marked);
     put(c, place(k), v);
     RunRead::Whole
