@@ -1,6 +1,6 @@
--- A status word behind its data. Read machine_answer's specs/Outcome.antt before. Exports `said`, `stored`, `stored-records`, `same-report`,
--- `same-answer`, `same-file`.
-use Prim.Native.Nat.{ℕ, _≤_}
+-- A status word behind its data. Read machine_answer's specs/Outcome.antt before. Exports `said`, `stored`, `stored-records`, `stored-object`,
+-- `same-report`, `same-answer`, `same-file`.
+use Prim.Native.Nat.{ℕ, _+_, _≤_, _<_}
 use mathlib.Core.Path.{_≡_, sym, ap, ap₂, _∙_}
 use mathlib.Core.Bool.{false}
 use mathlib.Core.List.{List}
@@ -13,8 +13,11 @@ use borrow.Author.Tests.{le-ltb}
 use Rattle.base.specs.Choice.{ifElse}
 use Rattle.base.specs.Bytes.{put}
 use Rattle.base.proofs.Runs.{putFits-accepted, put-accepted, put-behind}
-use Rattle.objects_writer.specs.Writer.{putEnd}
-use Rattle.objects_writer.proofs.Writings.{putEnd-accepted}
+use Rattle.objects_writer.specs.Writing.{tlv}
+use Rattle.objects_writer.specs.Writer.{headBytes, putEnd}
+use Rattle.objects_writer.specs.Fitting.{objectLength}
+use Rattle.objects_writer.proofs.Writings.{putEnd-accepted, headBytes-value, put-tlv}
+use Rattle.objects_writer.proofs.Fitting.{objectLength-tlv}
 use Rattle.machine_reply_record.specs.Joined.{recordsData}
 use Rattle.machine_reply_fmm.specs.Report.{reportData}
 use Rattle.machine_reply_record.proofs.Joining.{records-bound}
@@ -53,6 +56,20 @@ stored-records buf rs rs′ a b s r e =
     let n = rw t at e .0 in
     let bytes = rw t at e .1 in
     (n ∙ ap length d, bytes ∙ ap (sets buf 0) d ∙ sym (put-accepted buf 0 (recordsData rs′ a b) (omega (arith, records-bound rs′ a b))))
+
+-- so does one that stores an object: its head, and behind that its value
+pub stored-object : (buf v : List ℕ) (tag n : ℕ) {at : ℕ} {mid new : List ℕ} → tag < 256 → length v ≡ n → objectLength n ≤ 2048 → 2050 ≤ length buf
+    → (at ≡ putEnd buf 0 (headBytes tag n)) × (mid ≡ put buf 0 (headBytes tag n)) → new ≡ put mid at v
+    → (at + n ≡ length (tlv tag v)) × (new ≡ put buf 0 (tlv tag v))
+unfolding objectLength
+stored-object buf v tag n {at} {mid} {new} p e h r w z =
+    let a = headBytes tag (length v) in
+    let l : length a + length v ≡ length (tlv tag v) = sym (length-append a v) ∙ ap length (headBytes-value tag v (omega arith) (omega arith)) in
+    let q : length (tlv tag v) ≤ 2048 = rw (objectLength-tlv tag v p, e) h in
+    let f : (at ≡ putEnd buf 0 a) × (mid ≡ put buf 0 a) = rw e w in (
+      omega (arith, f .0, putEnd-accepted buf 0 a (putFits-accepted buf 0 a (omega arith))),
+      z ∙ ap₂ (λ (l : List ℕ) (k : ℕ). put l k v) (f .1) (f .0) ∙ put-tlv buf 0 tag v (omega arith) (omega arith) (omega arith),
+    )
 
 -- the same numbers, the same report
 pub same-report : (p2 : ℕ) {t r e t′ r′ e′ : ℕ} → t ≡ t′ → r ≡ r′ → e ≡ e′ → reportData p2 t r e ≡ reportData p2 t′ r′ e′

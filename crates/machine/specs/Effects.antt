@@ -9,6 +9,7 @@ use Rattle.store_records.specs.Body.{count}
 use Rattle.store_kinds.specs.Rules.{biometricsKind}
 use Rattle.store_image.specs.Image.{body, recordsOf, appendTo, updateIn, activateIn}
 use Rattle.store_kinds.specs.declared.rules.Rule.{Rule}
+use Rattle.objects_writer.specs.Writing.{tlv}
 use Rattle.objects_templates.specs.declared.Search.{Search}
 use Rattle.store_files.specs.Files.{idOf, fileBytes}
 use Rattle.store_files.specs.declared.File.the-variants.{RecordFile, TransparentFile}
@@ -21,7 +22,7 @@ use Rattle.machine_session.specs.declared.Place.the-variants.{OnFile, OnRecord}
 use Rattle.machine_session.specs.declared.Session.{Session}
 use Rattle.machine_record.specs.SearchRecord.{searchHits, searchReply, searchStatus}
 use Rattle.machine_action.specs.declared.Action.{Action}
-use Rattle.machine_action.specs.declared.Action.the-variants.{Status, SelectApplication, SelectFile, ReadBinary, UpdateBinary, Activate, AppendRecord, ReadRecord, SearchRecord, Report}
+use Rattle.machine_action.specs.declared.Action.the-variants.{Status, SelectApplication, SelectFile, ReadBinary, UpdateBinary, Activate, AppendRecord, ReadRecord, SearchRecord, Report, ReadBinaryOdd}
 use Rattle.machine_answer.specs.Outcome.{Outcome, says}
 
 -- a search that answers 9000 lists what matches, and the first of it becomes the current record [Q9] [Q12]
@@ -32,7 +33,7 @@ searched img s d buf r q ne =
     (says normal (searchReply rs d q) (placed s (OnRecord (r .id) (getD (searchHits rs d q) 0 0))) img buf)
     (says (searchStatus rs d q ne) [] s img buf)
 
--- d is the command's data field [O13] [L6] [L7] [Y5] [Y6] [W5] [A2] [G4] [J5] [J6] [Z4] [Z8]
+-- d is the command's data field [O13] [L6] [L7] [Y5] [Y6] [Y10] [W5] [A2] [G4] [J5] [J6] [Z4] [Z8]
 unfoldable pub done : Action → List ℕ → Session → List ℕ → List ℕ → Outcome
 done (Status w) img s d buf = says w [] s img buf
 -- an application, or the master file, has no current file at first
@@ -49,3 +50,4 @@ done (AppendRecord r) img s d buf =
 done (ReadRecord r a b) img s d buf = says normal (recordsData (recordsOf img (r .kind)) a b) (setFile s (RecordFile r)) img buf
 done (SearchRecord r q ne) img s d buf = searched img s d buf r q ne
 done (Report f p2) img s d buf = says normal (reportData p2 (total img f) (remaining img f) (existing img f)) (setFile s f) img buf
+done (ReadBinaryOdd t o n) img s d buf = says normal (tlv 0x53 (part (fileBytes img t) o n)) (setFile s (TransparentFile t)) img buf

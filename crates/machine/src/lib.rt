@@ -19,7 +19,7 @@ ghost use Prim.Native.Nat.{_+_, _≤_};
 ghost use lib.ListN.{length};
 ghost use Rattle.store_image.specs.Image.{wellFormed};
 ghost use Rattle.store_files.specs.Files.{fileBytes};
-ghost use Rattle.machine_action.specs.declared.Action.the-variants.{SearchRecord, ReadRecord, Report, ReadBinary};
+ghost use Rattle.machine_action.specs.declared.Action.the-variants.{SearchRecord, ReadRecord, Report, ReadBinary, ReadBinaryOdd};
 ghost use Rattle.machine_session.specs.declared.Verdict.the-variants.{Accepted};
 ghost use Rattle.machine_dispatch.specs.Loops.{Allowed};
 ghost use Rattle.machine_answer.specs.Outcome.{outcome, refused as refusedAs};
@@ -122,11 +122,33 @@ fn read_binary(
     requires { ⌜ (2050 ≤ length (now response)) × (n ≤ 2048) × (o + n ≤ length (fileBytes (now image) t)) ⌝ }
     ensures { λ x. ⌜ outcome x (now (image .entry)) (now (response .exit)) ≡ done (ReadBinary t o n) (now (image .entry)) s [] (now (response .entry)) ⌝ }
 {
-    store_files::put_bytes(image, t, o, n, response);
+    store_files::put_bytes(image, t, o, n, response, 0);
     machine_answer::status_behind(
         machine_session::set_file(s, File::TransparentFile(t)),
         status::NORMAL,
         n as u16,
+        response,
+    )
+}
+
+// READ BINARY with the odd INS: the object's head, and behind it the file's bytes.
+fn read_binary_odd(
+    image: &[u8],
+    s: Session,
+    t: Transparent,
+    o: usize,
+    n: usize,
+    response: &mut [u8],
+) -> Answer
+    requires { ⌜ (2050 ≤ length (now response)) × Allowed (now image) [] (ReadBinaryOdd t o n) ⌝ }
+    ensures { λ x. ⌜ outcome x (now (image .entry)) (now (response .exit)) ≡ done (ReadBinaryOdd t o n) (now (image .entry)) s [] (now (response .entry)) ⌝ }
+{
+    let at = objects_writer::put_head(response, 0, 0x53, n);
+    store_files::put_bytes(image, t, o, n, response, at);
+    machine_answer::status_behind(
+        machine_session::set_file(s, File::TransparentFile(t)),
+        status::NORMAL,
+        (at + n) as u16,
         response,
     )
 }
@@ -155,6 +177,7 @@ fn apply(image: &mut [u8], s: Session, d: Action, data: &[u8], response: &mut [u
         Action::ReadRecord(r, a, b) => read_record(image, s, r, a, b, response),
         Action::SearchRecord(r, q, ne) => search(image, s, r, q, ne, data, response),
         Action::Report(f, p2) => report(image, s, f, p2, response),
+        Action::ReadBinaryOdd(t, o, n) => read_binary_odd(image, s, t, o, n, response),
     }
 }
 

@@ -10,7 +10,7 @@ use Rattle.store_kinds.specs.declared.rules.Rule.{Rule}
 use Rattle.store_files.specs.declared.Transparent.{Transparent}
 use Rattle.store_files.specs.declared.File.{File}
 use Rattle.machine_session.specs.declared.Named.{Named}
-use Rattle.machine_session.specs.declared.Named.the-variants.{Current, Short}
+use Rattle.machine_session.specs.declared.Named.the-variants.{Current, Short, Id}
 use Rattle.machine_session.specs.declared.ResolvedRecord.{ResolvedRecord}
 use Rattle.machine_session.specs.declared.ResolvedRecord.the-variants.{RecordStop, RecordAt}
 use Rattle.machine_session.specs.declared.ResolvedTransparent.{ResolvedTransparent}
@@ -29,6 +29,10 @@ lcOnly f = allOf (leb 1 (f .lc) ∷ eqb (f .le) 0 ∷ [])
 -- no Lc, Le [O5]
 unfoldable pub leOnly : Frame → Bool
 leOnly f = allOf (eqb (f .lc) 0 ∷ leb 1 (f .le) ∷ [])
+
+-- Lc and Le [O5]
+unfoldable pub lcAndLe : Frame → Bool
+lcAndLe f = allOf (leb 1 (f .lc) ∷ leb 1 (f .le) ∷ [])
 
 -- neither Lc nor Le [O5]
 unfoldable pub neither : Frame → Bool
@@ -49,6 +53,10 @@ p1p2 f = be16 (f .header .p1) (f .header .p2)
 -- short id 0 in P2 is the current file [F4]
 unfoldable pub orCurrent : ℕ → Named
 orCurrent x = ifElse (eqb x 0) Current (Short x)
+
+-- P1-P2 is the file's id; 0000 is the current file [W1] [Y7]
+unfoldable pub idOrCurrent : ℕ → Named
+idOrCurrent i = ifElse (eqb i 0) Current (Id i)
 
 -- two bytes as an id [V7]
 abbrev pub idIn : List ℕ → ℕ

@@ -25,4 +25,6 @@ pub enum Action {
     SearchRecord(Rule, Search, usize),
     // the numbers that P2 asks for
     Report(File, usize),
+    // READ BINARY with the odd INS: offset, how many bytes of the file; the reply is an object
+    ReadBinaryOdd(Transparent, usize, usize),
 }

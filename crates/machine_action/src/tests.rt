@@ -3,7 +3,7 @@ use machine_apdu::Frame;
 use machine_session::Named;
 ghost use mathlib.Core.Path.{_≡_};
 ghost use Prim.Native.Nat.{_<_};
-ghost use Rattle.machine_action.specs.Tests.{lcOnly, leOnly, neither, allLe, be16, orCurrent, idIn};
+ghost use Rattle.machine_action.specs.Tests.{lcOnly, leOnly, lcAndLe, neither, allLe, be16, orCurrent, idOrCurrent, idIn};
 
 // Lc, no Le.
 pub fn lc_only(f: Frame) -> bool
@@ -20,6 +20,16 @@ pub fn le_only(f: Frame) -> bool
     ensures { λ r. ⌜ r ≡ leOnly f ⌝ }
 {
     if f.lc != 0 {
+        return false;
+    }
+    1 <= f.le
+}
+
+// Lc and Le.
+pub fn lc_and_le(f: Frame) -> bool
+    ensures { λ r. ⌜ r ≡ lcAndLe f ⌝ }
+{
+    if f.lc < 1 {
         return false;
     }
     1 <= f.le
@@ -63,6 +73,16 @@ pub fn or_current(x: usize) -> Named
         return Named::Current;
     }
     Named::Short(x)
+}
+
+// Id 0000 is the current file.
+pub fn id_or_current(i: usize) -> Named
+    ensures { λ r. ⌜ r ≡ idOrCurrent i ⌝ }
+{
+    if i == 0 {
+        return Named::Current;
+    }
+    Named::Id(i)
 }
 
 // Two bytes as an id.

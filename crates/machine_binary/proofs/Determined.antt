@@ -5,6 +5,8 @@ use Rattle.machine_binary.proofs.activate.activate_file.Kinds as activa
 use Rattle.machine_binary.proofs.activate.activate_file.Reads as activate-file-reads
 use Rattle.machine_binary.proofs.read_binary.read_binary.Kinds as read-binary-kinds
 use Rattle.machine_binary.proofs.read_binary.read_binary.Reads as read-binary-reads
+use Rattle.machine_binary.proofs.read_binary_odd.read_binary_odd.Kinds as read-binary-odd-kinds
+use Rattle.machine_binary.proofs.read_binary_odd.read_binary_odd.Reads as read-binary-odd-reads
 use Rattle.machine_binary.proofs.update_binary.update_binary.Kinds as update-binary-kinds
 use Rattle.machine_binary.proofs.update_binary.update_binary.Reads as update-binary-reads
 
@@ -13,6 +15,9 @@ activate-file-determined κs a e f p q i = ((p ∙ sym q) i, e .1)
 
 pub read-binary-determined : Determined read-binary-kinds.ps read-binary-kinds.r read-binary-reads.Post
 read-binary-determined κs a e f p q i = ((p ∙ sym q) i, e .1)
+
+pub read-binary-odd-determined : Determined read-binary-odd-kinds.ps read-binary-odd-kinds.r read-binary-odd-reads.Post
+read-binary-odd-determined κs a e f p q i = ((p ∙ sym q) i, e .1)
 
 pub update-binary-determined : Determined update-binary-kinds.ps update-binary-kinds.r update-binary-reads.Post
 update-binary-determined κs a e f p q i = ((p ∙ sym q) i, e .1)

@@ -1,8 +1,7 @@
 -- UPDATE BINARY.
 use Prim.Native.Nat.{ℕ, _+_}
 use mathlib.Core.List.{List, [], _∷_}
-use lib.Dec.{leb, eqb}
-use Rattle.base.specs.Choice.{ifElse}
+use lib.Dec.{leb}
 use Rattle.store_kinds.specs.Biometrics.{written, room}
 use Rattle.store_kinds.specs.Rules.{biometricsKind}
 use Rattle.store_image.specs.Image.{body}
@@ -15,15 +14,9 @@ use Rattle.machine_apdu.specs.declared.Frame.{Frame}
 use Rattle.machine_session.specs.Order.{inOrder}
 use Rattle.machine_session.specs.Resolve.{resolveBiometrics}
 use Rattle.machine_session.specs.declared.Session.{Session}
-use Rattle.machine_session.specs.declared.Named.{Named}
-use Rattle.machine_session.specs.declared.Named.the-variants.{Current, Id}
-use Rattle.machine_action.specs.Tests.{lcOnly, p1p2, onBiometrics}
+use Rattle.machine_action.specs.Tests.{lcOnly, p1p2, idOrCurrent, onBiometrics}
 use Rattle.machine_action.specs.declared.Action.{Action}
 use Rattle.machine_action.specs.declared.Action.the-variants.{Status, UpdateBinary}
-
--- P1-P2 is the file's id; 0000 is the current file [W1]
-unfoldable pub updateNamed : ℕ → Named
-updateNamed i = ifElse (eqb i 0) Current (Id i)
 
 -- step 10: the offset is no further than what is written, and the bytes have room [W4]
 unfoldable pub updateOn : List ℕ → Writes → ℕ → Action
@@ -37,7 +30,7 @@ updateOn img w n =
 -- step 6, then steps 7 to 10 [O6]
 abbrev pub updateBy : List ℕ → Session → ℕ → Update → Action
 updateBy img s i NoUpdate = Status wrongData
-updateBy img s i (Writing w) = onBiometrics (resolveBiometrics img s (updateNamed i)) (updateOn img w)
+updateBy img s i (Writing w) = onBiometrics (resolveBiometrics img s (idOrCurrent i)) (updateOn img w)
 
 -- [W1] [O5]
 unfoldable pub updateBinary : List ℕ → Session → Frame → List ℕ → Action

@@ -3,7 +3,6 @@ use machine_action::Action;
 use machine_action::tests;
 use machine_apdu::Frame;
 use machine_apdu::status;
-use machine_session::Named;
 use machine_session::ResolvedBiometrics;
 use machine_session::Session;
 use machine_session::resolve::resolve_biometrics;
@@ -15,16 +14,7 @@ ghost use mathlib.Core.Path.{_≡_};
 ghost use Prim.Native.Nat.{_+_};
 ghost use lib.Dec.{leb};
 ghost use Rattle.objects_templates.specs.declared.Update.the-variants.{Writing};
-ghost use Rattle.machine_binary.specs.UpdateBinary.{updateNamed, updateOn, updateBy, updateBinary};
-
-fn update_named(i: usize) -> Named
-    ensures { λ r. ⌜ r ≡ updateNamed i ⌝ }
-{
-    if i == 0 {
-        return Named::Current;
-    }
-    Named::Id(i)
-}
+ghost use Rattle.machine_binary.specs.UpdateBinary.{updateOn, updateBy, updateBinary};
 
 // Whether offset + n is at most room, without a sum that could wrap.
 fn within(offset: usize, n: usize, room: usize) -> bool
@@ -55,7 +45,7 @@ fn update_on(image: &[u8], w: Writes, n: u8) -> Action
 fn update_by(image: &[u8], s: Session, i: usize, w: Writes) -> Action
     ensures { λ r. ⌜ r ≡ updateBy (now (image .entry)) s i (Writing w) ⌝ }
 {
-    match resolve_biometrics(image, s, update_named(i)) {
+    match resolve_biometrics(image, s, tests::id_or_current(i)) {
         ResolvedBiometrics::BiometricsStop(x) => Action::Status(x),
         ResolvedBiometrics::BiometricsAt(n) => update_on(image, w, n),
     }

@@ -18,6 +18,10 @@ use Rattle.store_kinds.specs.Rules.{biometricsKind}
 use Rattle.store_image.specs.Image.{body}
 use Rattle.store_kinds.specs.declared.rules.Rule.{Rule}
 use Rattle.objects_templates.specs.Search.{readSearch}
+use Rattle.objects_writer.specs.Fitting.{objectLength}
+use Rattle.objects_templates.specs.OffsetObject.{readOffsetObject}
+use Rattle.objects_templates.specs.declared.OffsetObject.{OffsetObject}
+use Rattle.objects_templates.specs.declared.OffsetObject.the-variants.{Offset, NoOffset}
 use Rattle.objects_templates.specs.Update.{readUpdate}
 use Rattle.objects_templates.specs.Reference.{readReference}
 use Rattle.objects_templates.specs.declared.Query.{Query}
@@ -59,10 +63,12 @@ use Rattle.machine_apdu.specs.declared.Apdu.{Apdu}
 use Rattle.machine_apdu.specs.declared.Apdu.the-variants.{Bad, Good}
 use Rattle.machine_apdu.specs.declared.Frame.{Frame}
 use Rattle.machine_apdu.proofs.Laws.{shape-facts}
-use Rattle.machine_action.specs.Tests.{lcOnly, p1p2, idIn, orCurrent, onRecord, onTransparent, onBiometrics, onFile}
+use Rattle.machine_action.specs.Tests.{lcOnly, p1p2, idIn, orCurrent, idOrCurrent, onRecord, onTransparent, onBiometrics, onFile}
 use Rattle.machine_select.specs.Select.{selectAid, selectMaster, selectFile, selectBy, select}
 use Rattle.machine_binary.specs.ReadBinary.{readNamed, readOffset, readBinaryOn, readBinary}
-use Rattle.machine_binary.specs.UpdateBinary.{updateNamed, updateOn, updateBy, updateBinary}
+use Rattle.machine_binary.specs.ReadBinaryOdd.{readOddOn, readOddBy, readBinaryOdd}
+use Rattle.machine_binary.proofs.OddReading.{odd-bounds}
+use Rattle.machine_binary.specs.UpdateBinary.{updateOn, updateBy, updateBinary}
 use Rattle.machine_binary.specs.Activate.{activateFile}
 use Rattle.machine_record.specs.AppendRecord.{appendOn, appendRecord}
 use Rattle.machine_record.specs.ReadRecord.{recordNamed, readFrom, readRecordOn, readRecord}
@@ -71,7 +77,7 @@ use Rattle.machine_select.specs.Fmm.{fmmOn, fmmNamed, fmmFile, fmmBy, fmm}
 use Rattle.machine_dispatch.specs.Decide.{byIns, byOwnIns, byClass, byShape, decide, dataBy, dataOf}
 use Rattle.machine_dispatch.specs.Loops.{Allowed}
 use Rattle.machine_action.specs.declared.Action.{Action}
-use Rattle.machine_action.specs.declared.Action.the-variants.{Status, SelectApplication, SelectFile, ReadBinary, UpdateBinary, Activate, AppendRecord, ReadRecord, SearchRecord, Report}
+use Rattle.machine_action.specs.declared.Action.the-variants.{Status, SelectApplication, SelectFile, ReadBinary, UpdateBinary, Activate, AppendRecord, ReadRecord, SearchRecord, Report, ReadBinaryOdd}
 
 -- an append: the file is resolved, and the record has 1 to longest bytes, is not one too many, and fits
 pub record Appends (img : List ℕ) (s : Session) (n : ℕ) (r : Rule) : Type 0 where
@@ -120,6 +126,7 @@ From img s f d (AppendRecord r) = Pair f 0x00 0xE2 × (resolveRecord img s Appen
 From img s f d (ReadRecord r a b) = ReadBy img s f r a b
 From img s f d (SearchRecord r q ne) = SearchBy img s f d r q ne
 From img s f d (Report g p2) = Pair f 0x80 0x5E × FileResolved img s g
+From img s f d (ReadBinaryOdd t o n) = Pair f 0x00 0xB1 × TransparentResolved img s t × (objectLength n ≤ 2048) × (o + n ≤ length (fileBytes img t))
 
 module _ (img : List ℕ) (s : Session) (f : Frame) (d : List ℕ) where
   abbrev P : Action → Type 0
@@ -182,6 +189,20 @@ module _ (img : List ℕ) (s : Session) (f : Frame) (d : List ℕ) where
       read o ne t r =
           unfold readBinaryOn in inOrder-each P _ _ (refl, tt) (λ p. let h = ltb-true o (length (fileBytes img t)) (p .0) in (i, r, omega arith, omega arith))
 
+  read-odd-from : Pair f 0x00 0xB1 → P (readBinaryOdd img s f d)
+  unfolding readBinaryOdd
+  read-odd-from i = inOrder-each P _ _ (refl, tt) (λ p. data-field (readOffsetObject d))
+    where
+      read : (o : ℕ) (t : Transparent) → TransparentResolved img s t → P (readOddOn img o (f .ne) t)
+      read o t r =
+          unfold readOddOn in
+          inOrder-each P _ _ (refl, (refl, tt))
+          (λ p. let b = odd-bounds img o (f .ne) t (p .0) (p .1 .0) in (i, r, b .short, b .inside))
+
+      data-field : (x : OffsetObject) → P (readOddBy img s f x)
+      data-field NoOffset = refl
+      data-field (Offset o) = on-transparent (idOrCurrent (p1p2 f)) (readOddOn img o (f .ne)) (read o)
+
   update-from : Pair f 0x00 0xD7 → P (updateBinary img s f d)
   unfolding updateBinary
   update-from i = inOrder-each P _ _ (refl, tt) (λ p. data-field (readUpdate d))
@@ -191,7 +212,7 @@ module _ (img : List ℕ) (s : Session) (f : Frame) (d : List ℕ) where
 
       data-field : (u : Update) → P (updateBy img s (p1p2 f) u)
       data-field NoUpdate = refl
-      data-field (Writing w) = on-biometrics (updateNamed (p1p2 f)) (updateOn img w) (write w)
+      data-field (Writing w) = on-biometrics (idOrCurrent (p1p2 f)) (updateOn img w) (write w)
 
   activate-from : Pair f 0x00 0x44 → P (activateFile img s f)
   unfolding activateFile
@@ -259,11 +280,12 @@ module _ (img : List ℕ) (s : Session) (f : Frame) (d : List ℕ) where
       ifElse-ind P (eqb (f .header .cla) 0x00)
       (λ c. ifElse-ind P (eqb (f .header .ins) 0xA4) (λ e. select-from (c, e))
       (λ n. ifElse-ind P (eqb (f .header .ins) 0xB0) (λ e. read-binary-from (c, e))
+      (λ n. ifElse-ind P (eqb (f .header .ins) 0xB1) (λ e. read-odd-from (c, e))
       (λ n. ifElse-ind P (eqb (f .header .ins) 0xD7) (λ e. update-from (c, e))
       (λ n. ifElse-ind P (eqb (f .header .ins) 0x44) (λ e. activate-from (c, e))
       (λ n. ifElse-ind P (eqb (f .header .ins) 0xE2) (λ e. append-from l (c, e))
       (λ n. ifElse-ind P (eqb (f .header .ins) 0xB2) (λ e. read-record-from (c, e))
-      (λ n. ifElse-ind P (eqb (f .header .ins) 0xA2) (λ e. search-from (c, e)) (λ n. refl))))))))
+      (λ n. ifElse-ind P (eqb (f .header .ins) 0xA2) (λ e. search-from (c, e)) (λ n. refl)))))))))
       (λ n. ifElse-ind P (eqb (f .header .cla) 0x80) (λ c. ifElse-ind P (eqb (f .header .ins) 0x5E) (λ e. fmm-from (c, e)) (λ n. refl)) (λ n. refl))
 
 -- what a command comes to tells of the command
@@ -300,6 +322,7 @@ from-allowed img s f d (AppendRecord r) b h = tt
 from-allowed img s f d (ReadRecord r a z) b h = (h .file .file .ok, h .there)
 from-allowed img s f d (SearchRecord r q ne) b h = (h .file .file .ok, reference-short d q (h .asks) b)
 from-allowed img s f d (Report g p2) b h = tt
+from-allowed img s f d (ReadBinaryOdd t o n) b h = (h .2, h .3)
 
 pub bytes-part : (c : List ℕ) (a n : ℕ) → AllBytes c → AllBytes (part c a n)
 unfolding AllBytes

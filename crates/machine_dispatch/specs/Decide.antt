@@ -12,6 +12,7 @@ use Rattle.machine_apdu.specs.declared.Frame.{Frame}
 use Rattle.machine_session.specs.declared.Session.{Session}
 use Rattle.machine_select.specs.Select.{select}
 use Rattle.machine_binary.specs.ReadBinary.{readBinary}
+use Rattle.machine_binary.specs.ReadBinaryOdd.{readBinaryOdd}
 use Rattle.machine_binary.specs.UpdateBinary.{updateBinary}
 use Rattle.machine_binary.specs.Activate.{activateFile}
 use Rattle.machine_record.specs.AppendRecord.{appendRecord}
@@ -26,12 +27,13 @@ unfoldable pub byIns : List ℕ → Session → Frame → List ℕ → Action
 byIns img s f d =
     ifElse (eqb (f .header .ins) 0xA4) (select img s f d)
     (ifElse (eqb (f .header .ins) 0xB0) (readBinary img s f)
+    (ifElse (eqb (f .header .ins) 0xB1) (readBinaryOdd img s f d)
     (ifElse (eqb (f .header .ins) 0xD7) (updateBinary img s f d)
     (ifElse (eqb (f .header .ins) 0x44) (activateFile img s f)
     (ifElse (eqb (f .header .ins) 0xE2) (appendRecord img s f d)
     (ifElse (eqb (f .header .ins) 0xB2) (readRecord img s f)
     (ifElse (eqb (f .header .ins) 0xA2) (searchRecord img s f d)
-    (Status wrongInstruction)))))))
+    (Status wrongInstruction))))))))
 
 -- [V1] [O3]
 unfoldable pub byOwnIns : List ℕ → Session → Frame → List ℕ → Action

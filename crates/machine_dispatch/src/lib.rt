@@ -15,6 +15,7 @@ fn by_ins(image: &[u8], s: Session, f: Frame, data: &[u8]) -> Action
     match ins {
         0xA4 => machine_select::select::select(image, s, f, data),
         0xB0 => machine_binary::read_binary::read_binary(image, s, f),
+        0xB1 => machine_binary::read_binary_odd::read_binary_odd(image, s, f, data),
         0xD7 => machine_binary::update_binary::update_binary(image, s, f, data),
         0x44 => machine_binary::activate::activate_file(image, s, f),
         0xE2 => machine_record::append_record::append_record(image, s, f, data),

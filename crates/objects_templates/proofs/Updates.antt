@@ -1,6 +1,6 @@
 -- The data of UPDATE BINARY: what is accepted is the writing of an offset and bytes, every such writing is accepted, and it settles the two.
--- Read before: specs/Update.antt. Exports `update-sound`, `update-complete`, `update-unique`.
-use Prim.Native.Nat.{ℕ, _+_, _≤_}
+-- Read before: specs/Update.antt. Exports `update-sound`, `update-complete`, `update-unique`, `update-below`.
+use Prim.Native.Nat.{ℕ, _+_, _≤_, _<_}
 use mathlib.Core.Path.{_≡_, refl, sym, ap, subst, _∙_}
 use mathlib.Core.List.{List, [], _∷_, append-nil}
 use native.Mathlib.Omega.{arith}
@@ -17,6 +17,7 @@ use Rattle.objects_templates.specs.Update.{updateData, updateForm, write
 use Rattle.objects_reader.specs.declared.reader.Reading.{Reading}
 use Rattle.objects_templates.specs.declared.Writes.{Writes}
 use Rattle.objects_templates.specs.declared.Update.the-variants.{Writing, NoUpdate}
+use Rattle.objects_templates.proofs.Offsets.{big-below}
 use Rattle.objects_reader.proofs.Within.{read-within}
 use Rattle.objects_reader.proofs.Unique.{length-tlv}
 use Rattle.objects_reader.proofs.Taking.{Readable, readAs-facts, readAs-sound, readBy-noted, readAs-complete, readAs-unique, numberAt-noted}
@@ -69,7 +70,15 @@ module _ (s : List ℕ) (w : Writes) (e : readUpdate s ≡ Writing w) where
             (describe s offset bytes _ k (record { offset-size = (z .0, z .1); whole = omega arith }) (t .noted)),
       )
 
--- an offset of one or two bytes, and bytes that fit
+  -- the offset answered has up to three bytes
+  pub update-below : AllBytes s → w .offset < 16777216
+  unfolding updateData
+  update-below b =
+      let x = update-sound b in
+      let u = x .2 in
+      rw (u .offset-is) (big-below s (x .0) (tlv 0x53 (x .1)) (u .written) b (u .sized .offset-size .1))
+
+-- an offset of one to three bytes, and bytes that fit
 module _ (offset bytes : List ℕ) (z : UpdateSized offset bytes) where
   fits : length bytes ≤ 65535
   unfolding updateData

@@ -8,6 +8,7 @@ use Rattle.objects_writer.specs.Writing.{tlv}
 use Rattle.objects_reader.specs.Form.{Form, done, plain}
 use Rattle.objects_reader.specs.Places.{numberAt, readAs, Placed}
 use Rattle.objects_templates.specs.Span.{spanAt}
+use Rattle.objects_templates.specs.OffsetObject.{OffsetSize, offsetThen}
 use Rattle.objects_reader.specs.declared.reader.Reading.{Reading}
 use Rattle.objects_templates.specs.declared.Writes.{Writes}
 use Rattle.objects_templates.specs.declared.Update.{Update}
@@ -17,9 +18,9 @@ use Rattle.objects_templates.specs.declared.Update.the-variants.{Writing
 unfoldable pub updateData : (offset bytes : List ℕ) → List ℕ
 updateData offset bytes = tlv 0x54 offset ++ tlv 0x53 bytes
 
--- the same as a form: the offset has 1 or 2 bytes, the bytes may be none; no other object, C0 neither [W2] [W3]
+-- the same as a form: behind the offset stand the bytes, perhaps none; no other object, C0 neither [W2] [W3]
 abbrev pub updateForm : Form
-updateForm = plain 0x54 1 2 (plain 0x53 0 65535 done)
+updateForm = offsetThen (plain 0x53 0 65535 done)
 
 -- what its two values ask for; the offset is big-endian [W2]
 abbrev pub writeOf : List ℕ → Reading → Update
@@ -31,7 +32,7 @@ readUpdate s = readAs updateForm s (writeOf s) NoUpdate
 
 -- fields of the sizes that are allowed, in data of at most 65,535 bytes [W2]
 pub record UpdateSized (offset bytes : List ℕ) : Type 0 where
-  pub offset-size : (1 ≤ length offset) × (length offset ≤ 2)
+  pub offset-size : OffsetSize offset
   pub whole : length (updateData offset bytes) ≤ 65535
 
 -- s is the writing of these fields, and w says what they are [W2] [D11]

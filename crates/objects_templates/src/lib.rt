@@ -6,6 +6,7 @@ ghost use Rattle.objects_reader.specs.Places.{numberAt, Within};
 ghost use Rattle.objects_templates.specs.Span.{spanAt};
 ghost use Rattle.objects_templates.specs.Search.{askOf, readSearch};
 ghost use Rattle.objects_templates.specs.Update.{readUpdate};
+ghost use Rattle.objects_templates.specs.OffsetObject.{readOffsetObject};
 ghost use Rattle.objects_templates.specs.Reference.{readReference};
 use objects_reader::number::number;
 use objects_reader::reader::Reading;
@@ -43,6 +44,12 @@ pub enum Update {
     NoUpdate,
 }
 
+// The offset from which a READ BINARY with INS B1 reads.
+pub enum OffsetObject {
+    Offset(usize),
+    NoOffset,
+}
+
 // The file that FMM's data names.
 pub enum Reference {
     Refers(Span),
@@ -63,8 +70,14 @@ pub const SEARCH: [[u16; 5]; 10] = [
     [0x81, 0, 1, 1, 65535], // string
 ];
 
+// `54` offset, a row of two forms
+const OFFSET: [u16; 5] = [0x54, 0, 1, 1, 3];
+
 // `54` offset, `53` bytes
-pub const UPDATE: [[u16; 5]; 2] = [[0x54, 0, 1, 1, 2], [0x53, 0, 1, 0, 65535]];
+pub const UPDATE: [[u16; 5]; 2] = [OFFSET, [0x53, 0, 1, 0, 65535]];
+
+// `54` offset alone
+pub const OFFSET_ALONE: [[u16; 5]; 1] = [OFFSET];
 
 // `51` file
 pub const REFERENCE: [[u16; 5]; 1] = [[0x51, 0, 1, 1, 2]];
@@ -143,6 +156,18 @@ pub fn read_update(s: &[u8]) -> Update
         return Update::Writing(Writes { offset, bytes });
     }
     Update::NoUpdate
+}
+
+// Reads the data of READ BINARY with INS B1.
+pub fn read_offset_object(s: &[u8]) -> OffsetObject
+    ensures { λ q. ⌜ q ≡ readOffsetObject (now (s .entry)) ⌝ }
+{
+    let form = OFFSET_ALONE;
+    let r = read(s, &form);
+    if clean(r) {
+        return OffsetObject::Offset(number_at(s, r, 0));
+    }
+    OffsetObject::NoOffset
 }
 
 // Reads the data of FMM.

@@ -2,3 +2,4 @@
 pub mod Number
 pub mod Writing
 pub mod Writer
+pub mod Fitting

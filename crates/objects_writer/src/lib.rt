@@ -1,4 +1,6 @@
 // Writing data objects: all of an object's bytes are stored, or none of them.
+use base::natural::min;
+use base::natural::saturating_sub;
 ghost use mathlib.Core.Path.{_≡_};
 ghost use Prim.Native.Nat.{_+_, _≤_};
 ghost use lib.ListN.{length};
@@ -9,6 +11,7 @@ ghost use Rattle.base.specs.Bytes.{put};
 ghost use Rattle.objects_writer.specs.Number.{bytesOf, digits, shortest};
 ghost use Rattle.objects_writer.specs.Writing.{tlv};
 ghost use Rattle.objects_writer.specs.Writer.{headBytes, putEnd};
+ghost use Rattle.objects_writer.specs.Fitting.{longestWithin};
 
 // How many bytes n takes: the fewest, and at least one. The highest set bit says it; zero has none.
 pub fn fewest(n: usize) -> usize
@@ -18,6 +21,21 @@ pub fn fewest(n: usize) -> usize
         return 1;
     }
     ((71 - usize::leading_zeros(n)) / 8) as usize
+}
+
+// How long a value can be, of at most `most` bytes, whose object has at most `limit`. The tag has one byte; the length has one byte
+// up to 127, two up to 255, and then three.
+pub fn longest_within(limit: u16, most: usize) -> usize
+    ensures { λ r. ⌜ r ≡ longestWithin limit most ⌝ }
+{
+    let n = limit as usize;
+    if n < 131 {
+        return min(most, min(127, saturating_sub(n, 2)));
+    }
+    if n < 260 {
+        return min(most, min(255, n - 3));
+    }
+    min(most, n - 4)
 }
 
 // Stores b from `at` on, where all of it fits. Answers the place behind what is stored.

@@ -24,7 +24,7 @@ use Rattle.machine_session.specs.declared.Verdict.the-variants.{Accepted, Refus
 use Rattle.machine_record.specs.SearchRecord.{searchStatus}
 use Rattle.machine_dispatch.specs.Decide.{decide, dataOf}
 use Rattle.machine_action.specs.declared.Action.{Action}
-use Rattle.machine_action.specs.declared.Action.the-variants.{Status, SelectApplication, SelectFile, ReadBinary, UpdateBinary, Activate, AppendRecord, ReadRecord, SearchRecord, Report}
+use Rattle.machine_action.specs.declared.Action.the-variants.{Status, SelectApplication, SelectFile, ReadBinary, UpdateBinary, Activate, AppendRecord, ReadRecord, SearchRecord, Report, ReadBinaryOdd}
 use Rattle.machine_answer.specs.Outcome.{Outcome, says}
 use Rattle.machine.specs.Effects.{searched, done}
 use Rattle.machine.specs.Step.{verdictOn, stepBy, step}
@@ -111,6 +111,7 @@ module _ (img : List ℕ) (s : Session) (buf : List ℕ) (k : ℕ) where
   done-find (SearchRecord r q ne) d =
       ifElse-ind (λ (x : Outcome). find (x .image) k ≡ find img k) (eqb (searchStatus (recordsOf img (r .kind)) d q ne) 0x9000) (λ e. refl) (λ e. refl)
   done-find (Report f p2) d = refl
+  done-find (ReadBinaryOdd t o n) d = refl
 
   stepBy-find : (v : Verdict) (cmd : List ℕ) → find (stepBy v img s cmd buf .image) k ≡ find img k
   unfolding stepBy

@@ -39,7 +39,7 @@ use Rattle.machine_apdu.specs.declared.Header.{Header}
 use Rattle.machine_apdu.proofs.Laws.{shape-facts}
 use Rattle.machine_action.specs.Tests.{allLe, onRecord}
 use Rattle.machine_action.specs.declared.Action.{Action}
-use Rattle.machine_action.specs.declared.Action.the-variants.{Status, SelectApplication, SelectFile, ReadBinary, UpdateBinary, Activate, AppendRecord, ReadRecord, SearchRecord, Report}
+use Rattle.machine_action.specs.declared.Action.the-variants.{Status, SelectApplication, SelectFile, ReadBinary, UpdateBinary, Activate, AppendRecord, ReadRecord, SearchRecord, Report, ReadBinaryOdd}
 use Rattle.machine_record.specs.SearchRecord.{fileIn, searchNamed, searchOn, searchBy, searchRecord}
 use Rattle.machine_dispatch.specs.Decide.{byIns, byClass, byShape, decide, dataBy, dataOf}
 use Rattle.machine_dispatch.proofs.Allowing.{From, FromShape, decide-from, bytes-part}
@@ -54,12 +54,22 @@ use Rattle.promises.proofs.Wording.{refusing-not, Worded, decide-word}
 
 -- ---- steps 1 to 3
 
+-- CLA and INS
+pub pair-facts : (f : Frame) (c i : ℕ) → isPair f c i ≡ true → (f .header .cla ≡ c) × (f .header .ins ≡ i)
+unfolding isPair
+pair-facts f c i p = let h = allOf-facts (eqb (f .header .cla) c ∷ eqb (f .header .ins) i ∷ []) p in (eqb-true _ _ (h .0), eqb-true _ _ (h .1 .0))
+
 module _ (cmd : List ℕ) (f : Frame) (e : shapeOf cmd ≡ Good f) where
   pub data-is : dataOf cmd ≡ part cmd (f .from) (f .lc)
   data-is = unfold dataOf in ap (dataBy cmd) e
 
   pub data-length : length (dataOf cmd) ≡ f .lc
   data-length = ap length data-is ∙ length-part cmd (f .from) (f .lc) (shape-facts cmd (shapeOf cmd) f refl e .inside)
+
+  -- what a command comes to, by its CLA
+  pub class-decided : (img : List ℕ) (s : Session) → decide img s cmd ≡ byClass img s f (dataOf cmd)
+  unfolding decide
+  class-decided img s = ap (byShape img s cmd) e ∙ ap (byClass img s f) (sym data-is)
 
   -- CLA 00 and INS A2 lead to SEARCH RECORD
   led : (img : List ℕ) (s : Session) → f .header .cla ≡ 0x00 → f .header .ins ≡ 0xA2 → decide img s cmd ≡ searchRecord img s f (dataOf cmd)
@@ -235,6 +245,7 @@ only-searches img s cmd buf f b e p w =
         let y = search-decided-sound img s cmd r q ne b z in
         (y .1, r, subst (λ (g : Frame). Searching s cmd g (y .1) r) (same-frame (y .0) (y .2 .command .shape)) (y .2))
     go (Report g p2) z w h k = other 0x5E (h .0 .1) refl
+    go (ReadBinaryOdd u a n) z w h k = other 0xB1 (h .0 .1) refl
 
 pub search-refused : Search-refused
 search-refused img s cmd buf f b t e h n =

@@ -10,11 +10,20 @@ use lib.Dec.{leb, eqb, ltb}
 use borrow.Author.Tests.{eqb-false, eq-eqb, ne-eqb, eqb-true, leb-true, ltb-true, lt-ltb, le-ltb}
 use Rattle.base.specs.Bytes.{part, splice, AllBytes}
 use Rattle.base.proofs.Cases.{ifElse-ind, allOf-facts}
+use Rattle.base.proofs.Parts.{length-part}
 use Rattle.store_kinds.specs.Biometrics.{state, written, writtenBytes}
 use Rattle.store_kinds.specs.Rules.{biometricsKind}
 use Rattle.store_kinds.specs.declared.rules.Rule.{Rule}
 use Rattle.store_image.specs.Image.{wellFormed, body, recordsOf}
 use Rattle.store_image.proofs.Laws.{Changed, append-changes, append-list, records-count, biometrics-file, update-body, update-state, update-written, update-content, activate-body, activate-changes, activate-state, activate-written, activate-content}
+use Rattle.objects_writer.specs.Number.{big}
+use Rattle.objects_writer.specs.Writing.{tlv}
+use Rattle.objects_writer.specs.Fitting.{objectLength}
+use Rattle.objects_writer.proofs.Fitting.{objectLength-tlv, length-tlv-part}
+use Rattle.objects_templates.specs.OffsetObject.{readOffsetObject}
+use Rattle.objects_templates.specs.declared.OffsetObject.{OffsetObject}
+use Rattle.objects_templates.specs.declared.OffsetObject.the-variants.{Offset, NoOffset}
+use Rattle.objects_templates.proofs.Offsets.{offset-sound}
 use Rattle.objects_templates.specs.Update.{readUpdate}
 use Rattle.objects_templates.specs.declared.Update.{Update}
 use Rattle.objects_templates.specs.declared.Update.the-variants.{Writing, NoUpdate}
@@ -52,13 +61,15 @@ use Rattle.machine_session.specs.declared.Named.{Named}
 use Rattle.machine_session.specs.declared.Named.the-variants.{Current, Short, Id}
 use Rattle.machine_session.proofs.Steps.{inOrder-each, RecordResolved, TransparentResolved, BiometricsResolved, FileResolved, RecordOk, TransparentOk, BiometricsOk, AnyOk, resolveRecord-wellFormed, resolveTransparent-wellFormed, resolveBiometrics-wellFormed, resolveFile-wellFormed}
 use Rattle.machine_apdu.specs.declared.Frame.{Frame}
-use Rattle.machine_action.specs.Tests.{lcOnly, p1p2, idIn, orCurrent, onRecord, onTransparent, onBiometrics, onFile}
+use Rattle.machine_action.specs.Tests.{lcOnly, p1p2, idIn, orCurrent, idOrCurrent, onRecord, onTransparent, onBiometrics, onFile}
 use Rattle.machine_action.specs.declared.Action.{Action}
-use Rattle.machine_action.specs.declared.Action.the-variants.{Status, SelectFile, ReadBinary, UpdateBinary, Activate, AppendRecord}
+use Rattle.machine_action.specs.declared.Action.the-variants.{Status, SelectFile, ReadBinary, UpdateBinary, Activate, AppendRecord, ReadBinaryOdd}
 use Rattle.machine_select.specs.Select.{selectAid, selectMaster, selectFile, selectBy, oneOfThree, lengthFits, select}
 use Rattle.machine_select.specs.Fmm.{fmmOn, fmmNamed, fmmFile, fmmBy, fmm}
 use Rattle.machine_binary.specs.ReadBinary.{namesCurrent, readNamed, readOffset, readBinaryOn, readBinary}
-use Rattle.machine_binary.specs.UpdateBinary.{updateNamed, updateOn, updateBy, updateBinary}
+use Rattle.machine_binary.specs.ReadBinaryOdd.{readOddOn, readOddBy, readBinaryOdd}
+use Rattle.machine_binary.proofs.OddReading.{oddCount, OddBounds, odd-bounds}
+use Rattle.machine_binary.specs.UpdateBinary.{updateOn, updateBy, updateBinary}
 use Rattle.machine_record.specs.AppendRecord.{appendOn, appendRecord}
 use Rattle.machine_dispatch.specs.Decide.{byIns, byOwnIns, byClass, byShape, decide, dataOf}
 use Rattle.machine_dispatch.proofs.Allowing.{Appends, Writable, bytes-part}
@@ -68,9 +79,9 @@ use Rattle.machine_answer.specs.Outcome.{Outcome, says}
 use Rattle.machine.specs.Effects.{done}
 use Rattle.machine.specs.Step.{verdictOn, step}
 use Rattle.promises.specs.Calls.{isPair}
-use Rattle.promises.specs.Done.{Only, Obeyed, Appended, Append-done, Updated, Update-done, Activated, Activate-done, Fetched, Read-done, Selected, Select-done, Referred, Reported, Fmm-done}
+use Rattle.promises.specs.Done.{Only, Obeyed, Appended, Append-done, Updated, Update-done, Activated, Activate-done, Fetched, Read-done, FetchedOdd, Read-odd-done, Selected, Select-done, Referred, Reported, Fmm-done}
 use Rattle.promises.proofs.Answering.{data-said, step-accepted, status-accepted, accepted-facts, accepted-room}
-use Rattle.promises.proofs.Deciding.{data-is, data-length}
+use Rattle.promises.proofs.Deciding.{pair-facts, data-is, data-length, class-decided}
 use Rattle.promises.specs.Files.{Inspected, Writes-to}
 use Rattle.promises.proofs.Naming.{record-meant, record-permitted, p2-meant, biometrics-writes, transparent-inspected, file-inspected}
 use Rattle.promises.proofs.Growing.{accepts, write-accepted, write-changes}
@@ -124,12 +135,10 @@ module _ (img : List ℕ) (s : Session) (cmd buf : List ℕ) (f : Frame) {c i : 
   d = dataOf cmd
 
   cla : f .header .cla ≡ c
-  unfolding isPair
-  cla = eqb-true _ _ (allOf-facts (eqb (f .header .cla) c ∷ eqb (f .header .ins) i ∷ []) (b .pair) .0)
+  cla = pair-facts f c i (b .pair) .0
 
   ins : f .header .ins ≡ i
-  unfolding isPair
-  ins = eqb-true _ _ (allOf-facts (eqb (f .header .cla) c ∷ eqb (f .header .ins) i ∷ []) (b .pair) .1 .0)
+  ins = pair-facts f c i (b .pair) .1
 
   is-accepted : verdictOn img s (length buf) ≡ Accepted
   is-accepted = status-accepted img s cmd buf (b .status)
@@ -143,8 +152,7 @@ module _ (img : List ℕ) (s : Session) (cmd buf : List ℕ) (f : Frame) {c i : 
       subst R (sym u) (h (sym (ap (λ (o : Outcome). o .answer .status) u) ∙ b .status))
 
   by-class : decide img s cmd ≡ byClass img s f d
-  unfolding decide
-  by-class = ap (byShape img s cmd) (b .shape) ∙ ap (byClass img s f) (sym (data-is cmd f (b .shape)))
+  by-class = class-decided cmd f (b .shape) img s
 
 -- ---- APPEND RECORD
 
@@ -196,9 +204,9 @@ append-done img s cmd buf f b = came img s cmd buf f b R (appendRecord img s f (
 -- ---- UPDATE BINARY
 
 -- P1-P2 is the id, or where it is 0000 the file is the current one
-update-named : (i : ℕ) → (i ≡ 0 → updateNamed i ≡ Current) × ((i ≡ 0 → ⊥) → updateNamed i ≡ Id i)
-unfolding updateNamed
-update-named i = (λ h. simp (eq-eqb i 0 h), λ h. simp (ne-eqb i 0 h))
+pub id-or-current : (i : ℕ) → (i ≡ 0 → idOrCurrent i ≡ Current) × ((i ≡ 0 → ⊥) → idOrCurrent i ≡ Id i)
+unfolding idOrCurrent
+id-or-current i = (λ h. simp (eq-eqb i 0 h), λ h. simp (ne-eqb i 0 h))
 
 pub update-done : Update-done
 update-done img s cmd buf f y b = came img s cmd buf f b R (updateBinary img s f (dataOf cmd)) led tests
@@ -218,7 +226,7 @@ update-done img s cmd buf f y b = came img s cmd buf f b R (updateBinary img s f
     data-bytes : AllBytes (dataOf cmd)
     data-bytes = subst AllBytes (sym (data-is cmd f (b .shape))) (bytes-part cmd (f .from) (f .lc) y)
 
-    write : (w : Writes) → readUpdate (dataOf cmd) ≡ Writing w → (n : ℕ) → resolveBiometrics img s (updateNamed (p1p2 f)) ≡ BiometricsAt n
+    write : (w : Writes) → readUpdate (dataOf cmd) ≡ Writing w → (n : ℕ) → resolveBiometrics img s (idOrCurrent (p1p2 f)) ≡ BiometricsAt n
         → Writable img s n w → Came img s (dataOf cmd) buf R (UpdateBinary n w)
     write w v n e a z =
         unfold done says in
@@ -231,13 +239,13 @@ update-done img s cmd buf f y b = came img s cmd buf f b R (updateBinary img s f
         let dat : List ℕ = part (dataOf cmd) (w .bytes .at) (w .bytes .len) in
         let t = write-accepted img s cmd buf o n w (dataOf cmd) a in
         let new = update-body img k o (g .kind) (g .stands) (w .offset) dat in
-        let to = biometrics-writes img s (updateNamed (p1p2 f)) n e (a .file) in
+        let to = biometrics-writes img s (idOrCurrent (p1p2 f)) n e (a .file) in
         record {
           number = n;
           offset = offset;
           bytes = bytes;
-          of-current = λ h. subst (λ (x : Named). Writes-to img s x n) (update-named (p1p2 f) .0 h) to;
-          of-id = λ h. subst (λ (x : Named). Writes-to img s x n) (update-named (p1p2 f) .1 h) to;
+          of-current = λ h. subst (λ (x : Named). Writes-to img s x n) (id-or-current (p1p2 f) .0 h) to;
+          of-id = λ h. subst (λ (x : Named). Writes-to img s x n) (id-or-current (p1p2 f) .1 h) to;
           writes = u .written;
           sized = u .sized;
           stands = ap writtenBytes new ∙ update-content (body img k) (w .offset) dat t ∙ ap₂ (splice (writtenBytes (body img k))) (u .offset-is) (u .bytes-placed .is);
@@ -248,7 +256,7 @@ update-done img s cmd buf f y b = came img s cmd buf f b R (updateBinary img s f
           current = refl;
         }
 
-    on : (w : Writes) → readUpdate (dataOf cmd) ≡ Writing w → (n : ℕ) → resolveBiometrics img s (updateNamed (p1p2 f)) ≡ BiometricsAt n → BiometricsResolved img s n
+    on : (w : Writes) → readUpdate (dataOf cmd) ≡ Writing w → (n : ℕ) → resolveBiometrics img s (idOrCurrent (p1p2 f)) ≡ BiometricsAt n → BiometricsResolved img s n
         → Came img s (dataOf cmd) buf R (updateOn img w n)
     on w v n e r =
         unfold updateOn in
@@ -257,7 +265,7 @@ update-done img s cmd buf f y b = came img s cmd buf f b R (updateBinary img s f
 
     fields : (u : Update) → readUpdate (dataOf cmd) ≡ u → Came img s (dataOf cmd) buf R (updateBy img s (p1p2 f) u)
     fields NoUpdate v = word 0x6A80 refl
-    fields (Writing w) v = on-biometrics img s (dataOf cmd) buf R (updateNamed (p1p2 f)) (updateOn img w) (on w v)
+    fields (Writing w) v = on-biometrics img s (dataOf cmd) buf R (idOrCurrent (p1p2 f)) (updateOn img w) (on w v)
 
     tests : Came img s (dataOf cmd) buf R (updateBinary img s f (dataOf cmd))
     tests =
@@ -307,7 +315,7 @@ activate-done img s cmd buf f b = came img s cmd buf f b R (activateFile img s f
 -- ---- READ BINARY
 
 -- P1 below 80 leaves the current file, and P1-P2 is the offset
-read-named : (f : Frame)
+pub read-named : (f : Frame)
     → (f .header .p1 < 0x80 → (readNamed f ≡ Current) × (readOffset f ≡ p1p2 f))
     × (0x80 ≤ f .header .p1 → (readNamed f ≡ Short (f .header .p1 % 0x20)) × (readOffset f ≡ f .header .p2))
 unfolding readNamed readOffset namesCurrent
@@ -356,6 +364,68 @@ read-done img s cmd buf f b = came img s cmd buf f b R (readBinary img s f) led 
         unfold readBinary in
         inOrder-each (Came img s (dataOf cmd) buf R) _ _ (word 0x6A86 refl, (word 0x6700 refl, tt))
         (λ p. on-transparent img s (dataOf cmd) buf R (readNamed f) (readBinaryOn img (readOffset f) (f .ne)) on)
+
+-- ---- READ BINARY with the odd INS
+
+pub read-odd-done : Read-odd-done
+read-odd-done img s cmd buf f y b = came img s cmd buf f b R (readBinaryOdd img s f (dataOf cmd)) led tests
+  where
+    R : Outcome → Type 0
+    R = FetchedOdd img s cmd f
+
+    led : decide img s cmd ≡ readBinaryOdd img s f (dataOf cmd)
+    led = by-class img s cmd buf f b ∙ (unfold byClass byIns in simp (cla img s cmd buf f b, ins img s cmd buf f b))
+
+    word : (w : ℕ) → ltb w 0x9000 ≡ true → Came img s (dataOf cmd) buf R (Status w)
+    word = word-came img s (dataOf cmd) buf R
+
+    data-bytes : AllBytes (dataOf cmd)
+    data-bytes = subst AllBytes (sym (data-is cmd f (b .shape))) (bytes-part cmd (f .from) (f .lc) y)
+
+    read : (a : ℕ) → readOffsetObject (dataOf cmd) ≡ Offset a → (t : Transparent) → resolveTransparent img s (idOrCurrent (p1p2 f)) ≡ TransparentAt t → TransparentResolved img s t
+        → (n : ℕ) → OddBounds img a (f .ne) t n → Came img s (dataOf cmd) buf R (ReadBinaryOdd t a n)
+    read a v t e r n k z =
+        unfold done says in
+        let x = offset-sound (dataOf cmd) a v data-bytes in
+        let o = x .1 in
+        let c : List ℕ = part (fileBytes img t) a n in
+        let l : length c ≡ n = length-part (fileBytes img t) a n (k .inside) in
+        let q : length (tlv 0x53 c) ≡ objectLength n = length-tlv-part 0x53 (fileBytes img t) a n (omega arith) (k .inside) in
+        let i = transparent-inspected img s (idOrCurrent (p1p2 f)) t e r in
+        let told = data-said 0x9000 (tlv 0x53 c) (setFile s (TransparentFile t)) img buf (omega (arith, q, k .short)) (accepted-room img s buf (is-accepted img s cmd buf f b)) in
+        record {
+          file = t;
+          offset = x .0;
+          bytes = c;
+          of-current = λ h. subst (λ (x : Named). Inspected img s x (TransparentFile t)) (id-or-current (p1p2 f) .0 h) i;
+          of-id = λ h. subst (λ (x : Named). Inspected img s x (TransparentFile t)) (id-or-current (p1p2 f) .1 h) i;
+          asks = o .written;
+          size = o .size;
+          told = told;
+          content = ap₂ (part (fileBytes img t)) (o .offset-is) (sym l);
+          some = omega (arith, l, k .some);
+          inside = omega (arith, l, o .offset-is, k .inside);
+          fits = omega (arith, ap length told, q, k .fits);
+          as-many = λ more h j. omega (arith, objectLength-tlv 0x53 more (omega arith), k .longest (length more) (omega (arith, l)) (omega (arith, o .offset-is)));
+          image-kept = refl;
+          current = refl;
+        }
+
+    on : (a : ℕ) → readOffsetObject (dataOf cmd) ≡ Offset a → (t : Transparent) → resolveTransparent img s (idOrCurrent (p1p2 f)) ≡ TransparentAt t → TransparentResolved img s t
+        → Came img s (dataOf cmd) buf R (readOddOn img a (f .ne) t)
+    on a v t e r =
+        unfold readOddOn in
+        inOrder-each (Came img s (dataOf cmd) buf R) _ _ (word 0x6B00 refl, (word 0x6700 refl, tt))
+        (λ p. read a v t e r (oddCount img a (f .ne) t) (odd-bounds img a (f .ne) t (p .0) (p .1 .0)))
+
+    data-field : (x : OffsetObject) → readOffsetObject (dataOf cmd) ≡ x → Came img s (dataOf cmd) buf R (readOddBy img s f x)
+    data-field NoOffset v = word 0x6A80 refl
+    data-field (Offset a) v = on-transparent img s (dataOf cmd) buf R (idOrCurrent (p1p2 f)) (readOddOn img a (f .ne)) (on a v)
+
+    tests : Came img s (dataOf cmd) buf R (readBinaryOdd img s f (dataOf cmd))
+    tests =
+        unfold readBinaryOdd in
+        inOrder-each (Came img s (dataOf cmd) buf R) _ _ (word 0x6700 refl, tt) (λ p. data-field (readOffsetObject (dataOf cmd)) refl)
 
 -- ---- SELECT
 

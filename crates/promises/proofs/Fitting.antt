@@ -43,7 +43,7 @@ use Rattle.machine_apdu.specs.declared.Frame.{Frame}
 use Rattle.machine_record.specs.SearchRecord.{textIn, searchHits, searchStatus}
 use Rattle.machine_dispatch.specs.Decide.{decide, dataBy, dataOf}
 use Rattle.machine_action.specs.declared.Action.{Action}
-use Rattle.machine_action.specs.declared.Action.the-variants.{Status, SelectApplication, SelectFile, ReadBinary, UpdateBinary, Activate, AppendRecord, ReadRecord, SearchRecord, Report}
+use Rattle.machine_action.specs.declared.Action.the-variants.{Status, SelectApplication, SelectFile, ReadBinary, UpdateBinary, Activate, AppendRecord, ReadRecord, SearchRecord, Report, ReadBinaryOdd}
 use Rattle.machine_dispatch.proofs.Allowing.{From, FromShape, decide-from}
 use Rattle.machine_reply_search.specs.Found.{matching, hits}
 use Rattle.machine_reply_search.proofs.Matching.{first-match, hits-first, none-hits}
@@ -220,6 +220,7 @@ module _ (img : List ℕ) (s : Session) (cmd buf : List ℕ) (o : wellFormed img
   done-fits f (ReadRecord r a b) h k = at-set img s e (RecordFile r) (h .file .file)
   done-fits f (SearchRecord r q ne) h k = fits-on k _ (searched-fits img s e _ buf r q ne (h .file .file))
   done-fits f (Report g p2) h k = at-set img s e g (h .1 .file)
+  done-fits f (ReadBinaryOdd t a n) h k = at-set img s e (TransparentFile t) (h .1 .file)
 
   shape-fits : (a : Apdu) (x : Action) → FromShape img s cmd a x → Keeps img (done x img s (dataBy cmd a) buf .image)
       → sessionFits (done x img s (dataBy cmd a) buf .image) (done x img s (dataBy cmd a) buf .answer .session) ≡ true

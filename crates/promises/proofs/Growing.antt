@@ -33,7 +33,7 @@ use Rattle.machine_apdu.specs.declared.Frame.{Frame}
 use Rattle.machine_action.specs.Tests.{orCurrent}
 use Rattle.machine_dispatch.specs.Decide.{decide, dataBy, dataOf}
 use Rattle.machine_action.specs.declared.Action.{Action}
-use Rattle.machine_action.specs.declared.Action.the-variants.{Status, SelectApplication, SelectFile, ReadBinary, UpdateBinary, Activate, AppendRecord, ReadRecord, SearchRecord, Report}
+use Rattle.machine_action.specs.declared.Action.the-variants.{Status, SelectApplication, SelectFile, ReadBinary, UpdateBinary, Activate, AppendRecord, ReadRecord, SearchRecord, Report, ReadBinaryOdd}
 use Rattle.machine_dispatch.proofs.Allowing.{Pair, Appends, Writable, From, FromShape, decide-from}
 use Rattle.machine_answer.specs.Outcome.{Outcome, says}
 use Rattle.machine.specs.Effects.{searched, done}
@@ -191,6 +191,7 @@ module _ (img : List ℕ) (s : Session) (cmd buf : List ℕ) (o : wellFormed img
   done-grown f (ReadRecord r a b) h = grown-none img o refl (by-pair img s cmd f 0x9000 0x00 0xB2 (h .pair) refl)
   done-grown f (SearchRecord r q ne) h = grown-none img o (searched-image _ r q ne) (by-pair img s cmd f (searched img s (part cmd (f .from) (f .lc)) buf r q ne .answer .status) 0x00 0xA2 (h .pair) refl)
   done-grown f (Report g p2) h = grown-none img o refl (by-pair img s cmd f 0x9000 0x80 0x5E (h .0) refl)
+  done-grown f (ReadBinaryOdd t a n) h = grown-none img o refl (by-pair img s cmd f 0x9000 0x00 0xB1 (h .0) refl)
 
   shape-grown : (a : Apdu) (x : Action) → FromShape img s cmd a x
       → let u = done x img s (dataBy cmd a) buf in Grown img (u .image) (λ k. addedBy k s cmd (u .answer .status) a)

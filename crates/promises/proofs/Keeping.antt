@@ -21,7 +21,7 @@ use Rattle.machine_session.specs.declared.Verdict.the-variants.{Accepted, Refus
 use Rattle.machine_record.specs.SearchRecord.{searchStatus}
 use Rattle.machine_dispatch.specs.Decide.{decide, dataOf}
 use Rattle.machine_action.specs.declared.Action.{Action}
-use Rattle.machine_action.specs.declared.Action.the-variants.{Status, SelectApplication, SelectFile, ReadBinary, UpdateBinary, Activate, AppendRecord, ReadRecord, SearchRecord, Report}
+use Rattle.machine_action.specs.declared.Action.the-variants.{Status, SelectApplication, SelectFile, ReadBinary, UpdateBinary, Activate, AppendRecord, ReadRecord, SearchRecord, Report, ReadBinaryOdd}
 use Rattle.machine_answer.specs.Outcome.{outcome, refused, word, says}
 use Rattle.machine.specs.Effects.{searched, done}
 use Rattle.machine.specs.Step.{verdictOn, stepBy, step}
@@ -73,6 +73,7 @@ module _ (img : List ℕ) (s : Session) (buf : List ℕ) where
   done-kept (ReadRecord r a b) d = effect-kept _ _ _
   done-kept (SearchRecord r q ne) d = ifElse-ind (Kept img s buf) (eqb (searchStatus (recordsOf img (r .kind)) d q ne) 0x9000) (λ e. effect-kept _ _ _) (λ e. word-kept _)
   done-kept (Report f p2) d = effect-kept _ _ _
+  done-kept (ReadBinaryOdd t o n) d = effect-kept _ _ _
 
   refused-kept : (r : Refusal) → List·Memᴰ (refusalNumber r) (0 ∷ 1 ∷ 2 ∷ 4 ∷ []) → Kept img s buf (outcome (refused r s) img buf)
   unfolding verdictNumber

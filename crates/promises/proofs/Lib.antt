@@ -12,6 +12,7 @@ pub mod Deciding
 pub mod Searching
 pub mod Spelling
 pub mod Doing
+pub mod Binary
 pub mod Fitting
 pub mod Linking
 pub mod Calling

@@ -24,7 +24,7 @@ use Rattle.machine_session.specs.declared.Verdict.{Verdict}
 use Rattle.machine_session.specs.declared.Verdict.the-variants.{Accepted, Refused}
 use Rattle.machine_dispatch.specs.Decide.{decide, dataOf}
 use Rattle.machine_action.specs.declared.Action.{Action}
-use Rattle.machine_action.specs.declared.Action.the-variants.{Status, SelectApplication, SelectFile, ReadBinary, UpdateBinary, Activate, AppendRecord, ReadRecord, SearchRecord, Report}
+use Rattle.machine_action.specs.declared.Action.the-variants.{Status, SelectApplication, SelectFile, ReadBinary, UpdateBinary, Activate, AppendRecord, ReadRecord, SearchRecord, Report, ReadBinaryOdd}
 use Rattle.machine_answer.specs.Outcome.{Outcome, says}
 use Rattle.machine.specs.Effects.{searched, done}
 use Rattle.machine.specs.Step.{verdictOn, stepBy, step, opening}
@@ -59,6 +59,7 @@ module _ (img : List ℕ) (s : Session) (buf : List ℕ) where
   done-rights (SearchRecord r q ne) d =
       ifElse-ind (λ (o : Outcome). o .answer .session .rights ≡ s .rights) (eqb (searchStatus (recordsOf img (r .kind)) d q ne) 0x9000) (λ e. refl) (λ e. refl)
   done-rights (Report f p2) d = set-rights f
+  done-rights (ReadBinaryOdd t o n) d = set-rights (TransparentFile t)
 
   stepBy-rights : (x : Verdict) (cmd : List ℕ) → stepBy x img s cmd buf .answer .session .rights ≡ s .rights
   unfolding stepBy

@@ -1,5 +1,5 @@
 -- What steps 7 to 9 answer is the file that the command means: the machine's look-ups find what ../specs/Files.antt says (`record-meant` and
--- its like), and a record file that is meant is found (`meant-resolved`). No short id has 000 in its low bits (`spellings-apart`), so that
+-- its like), and a record file that is meant is found (`meant-resolved`). A transparent file is looked for as by its id (`meant-by-id`). No short id has 000 in its low bits (`spellings-apart`), so that
 -- a byte of a search means one file only (`byte-means-one`). Read before: ../specs/Files.antt.
 use Prim.Native.Nat.{ℕ, _-_, _%_}
 use mathlib.Core.Path.{_≡_, refl, sym, ap, ap₂, subst, _∙_}
@@ -20,7 +20,7 @@ use Rattle.store_kinds.specs.declared.rules.Key.the-variants.{Kind as ByKind, I
 use Rattle.store_kinds.proofs.Table.{Regular, rule-key, rule-listed, listed-regular}
 use Rattle.store_kinds.proofs.Presence.{presentBy-has}
 use Rattle.store_image.specs.Image.{has, present}
-use Rattle.store_files.specs.Files.{ruled, biometricsById, masterBy, byId, byShort, idOf}
+use Rattle.store_files.specs.Files.{ruled, biometricsById, masterBy, byId, byShort, transparentId, idOf}
 use Rattle.store_files.specs.declared.Transparent.{Transparent}
 use Rattle.store_files.specs.declared.Transparent.the-variants.{Info, Dir, Biometrics}
 use Rattle.store_files.specs.declared.File.{File}
@@ -331,6 +331,32 @@ module _ (s : Session) (x : ℕ) where
 
 pub byte-means-one : (s : Session) (b : ℕ) (f g : File) → Listed f → Listed g → isMeantByByte s b f ≡ true → isMeantByByte s b g ≡ true → f ≡ g
 byte-means-one s b f g m n h k = one-short s (searchShort b) f g m n (sym (byte-meant s b f m) ∙ h) (sym (byte-meant s b g n) ∙ k)
+
+-- ---- whatever name means a transparent file, step 7 looks for it as for its id
+
+module _ (img : List ℕ) (s : Session) where
+  abbrev pub byItsId : Transparent → Meant
+  byItsId t = meantBy (byId img (s .application) (transparentId t))
+
+  master-own : (x : ℕ) (t : Transparent) → isMeant s (Short x) (TransparentFile t) ≡ true → masterBy 0x2F01 0x2F00 (transparentId t) ≡ Known (TransparentFile t)
+  unfolding masterBy transparentId isMeant isShortOf
+  master-own x Info h = refl
+  master-own x Dir h = refl
+  master-own x (Biometrics n) h = false-true (allOf-facts _ h .1 .0)
+
+  pub meant-by-id : (t : Transparent) (n : Named) → isMeant s n (TransparentFile t) ≡ true → fileMeant img s n ≡ byItsId t
+  unfolding fileMeant byShort byId isMeant idOf isCurrent
+  meant-by-id t (Short x) h = simp (eq-eqb (s .application) 0 (master s x t h)) (ap meantBy (found-master s x t h ∙ sym (master-own x t h)))
+  meant-by-id t (Id i) h = ap (λ (j : ℕ). meantBy (byId img (s .application) j)) (sym (eqb-true (transparentId t) i (allOf-facts _ h .1 .0)))
+  meant-by-id t Current h = at (s .place) (allOf-facts _ h .1 .0)
+    where
+      on : (i : ℕ) → eqb i (transparentId t) ≡ true → meantBy (byId img (s .application) i) ≡ byItsId t
+      on i c = ap (λ (j : ℕ). meantBy (byId img (s .application) j)) (eqb-true i (transparentId t) c)
+
+      at : (p : Place) → isCurrent p (transparentId t) ≡ true → meantAt img (s .application) p ≡ byItsId t
+      at Nowhere c = false-true c
+      at (OnFile i) c = on i c
+      at (OnRecord i n) c = on i c
 
 -- ---- P2 means one record file only
 

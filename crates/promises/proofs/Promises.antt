@@ -1,7 +1,8 @@
--- The theorems: each proves the promise of its name in ../specs/Promises.antt, Done.antt, Linked.antt, Bodies.antt,
+-- The theorems: each proves the promise of its name in ../specs/Promises.antt, Done.antt, Binary.antt, Linked.antt, Bodies.antt,
 -- Certificates.antt, Index.antt, Stamps.antt or Rights.antt.
 use Rattle.promises.specs.Promises.{Says-no, Gets-word, Opens, Holds, Number-kept, Reads-history, Leaves-none-out, Only-searches, Search-refused, Both-spellings, Stays-accepted, Answer-fits, Opening-fits, Session-bytes, Opening-bytes, Result-whole, Move-says-no, Move-done, Same-sizes, Move-twice, Move-whole}
-use Rattle.promises.specs.Done.{Append-done, Update-done, Activate-done, Read-done, Select-done, Fmm-done}
+use Rattle.promises.specs.Done.{Append-done, Update-done, Activate-done, Read-done, Read-odd-done, Select-done, Fmm-done}
+use Rattle.promises.specs.Binary.{Both-reads}
 use Rattle.promises.specs.Linked.{C-sees, C-malformed, C-says-no, C-gets-word, C-holds, C-number-kept, C-reads-history, C-leaves-none-out, C-opens, C-moves}
 use Rattle.promises.specs.Bodies.{C-file, C-file-stays}
 use Rattle.promises.specs.Certificates.{C-certificate, C-certificate-kept}
@@ -14,6 +15,7 @@ use Rattle.store_move.proofs.Moves.{moveCard-numbered}
 use Rattle.store_move_laws.proofs.Laws.{refused-target}
 use Rattle.promises.proofs.Saying as saying
 use Rattle.promises.proofs.Doing as doing
+use Rattle.promises.proofs.Binary as binary
 use Rattle.promises.proofs.Moving as moving
 use Rattle.promises.proofs.Growing as growing
 use Rattle.promises.proofs.Reading as reading
@@ -103,6 +105,12 @@ activate-done = doing.activate-done
 
 pub read-done : Read-done
 read-done = doing.read-done
+
+pub read-odd-done : Read-odd-done
+read-odd-done = doing.read-odd-done
+
+pub both-reads : Both-reads
+both-reads = binary.both-reads
 
 pub select-done : Select-done
 select-done = doing.select-done

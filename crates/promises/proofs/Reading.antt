@@ -33,7 +33,7 @@ use Rattle.machine_apdu.specs.declared.Apdu.{Apdu}
 use Rattle.machine_apdu.specs.declared.Frame.{Frame}
 use Rattle.machine_dispatch.specs.Decide.{decide, dataBy, dataOf}
 use Rattle.machine_action.specs.declared.Action.{Action}
-use Rattle.machine_action.specs.declared.Action.the-variants.{Status, SelectApplication, SelectFile, ReadBinary, UpdateBinary, Activate, AppendRecord, ReadRecord, SearchRecord, Report}
+use Rattle.machine_action.specs.declared.Action.the-variants.{Status, SelectApplication, SelectFile, ReadBinary, UpdateBinary, Activate, AppendRecord, ReadRecord, SearchRecord, Report, ReadBinaryOdd}
 use Rattle.machine_dispatch.proofs.Allowing.{Pair, From, FromShape, ReadBy, decide-from}
 use Rattle.machine_reply_record.specs.Joined.{recordsData}
 use Rattle.machine_reply_record.proofs.Joining.{joined-one}
@@ -143,6 +143,7 @@ module _ (img : List ℕ) (s : Session) (cmd buf : List ℕ) (f : Frame) (o : we
   read-decided rs same q (ReadRecord r a b) h e = reads rs same r a b h
   read-decided rs same q (SearchRecord r x ne) h e = other 0x00 0xA2 (h .pair) q refl
   read-decided rs same q (Report g n) h e = other 0x80 0x5E (h .0) q refl
+  read-decided rs same q (ReadBinaryOdd t a n) h e = other 0x00 0xB1 (h .0) q refl
 
 pub reads-history : Reads-history
 reads-history img calls s cmd buf f o e q t =

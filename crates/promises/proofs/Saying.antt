@@ -28,9 +28,10 @@ use Rattle.machine_apdu.specs.declared.Frame.{Frame}
 use Rattle.machine_record.specs.SearchRecord.{searchStatus}
 use Rattle.machine_dispatch.specs.Decide.{decide, dataBy, dataOf}
 use Rattle.machine_action.specs.declared.Action.{Action}
-use Rattle.machine_action.specs.declared.Action.the-variants.{Status, SelectApplication, SelectFile, ReadBinary, UpdateBinary, Activate, AppendRecord, ReadRecord, SearchRecord, Report}
+use Rattle.machine_action.specs.declared.Action.the-variants.{Status, SelectApplication, SelectFile, ReadBinary, UpdateBinary, Activate, AppendRecord, ReadRecord, SearchRecord, Report, ReadBinaryOdd}
 use Rattle.machine_dispatch.proofs.Allowing.{From, FromShape, decide-from, reference-short, bytes-part}
 use Rattle.machine_reply_record.proofs.Joining.{records-bound}
+use Rattle.objects_writer.proofs.Fitting.{length-tlv-part}
 use Rattle.machine_reply_fmm.proofs.Reporting.{report-bound}
 use Rattle.machine_answer.specs.Outcome.{Outcome, word, says}
 use Rattle.machine.specs.Effects.{searched, done}
@@ -97,6 +98,7 @@ module _ (img : List ℕ) (s : Session) (buf : List ℕ) (o : wellFormed img ≡
       (λ e. with-data _ _ (reply-short img d r q o (h .file .file .ok) (reference-short d q (h .asks) b)))
       (λ e. alone _ s img (search-word (recordsOf img (r .kind)) d q ne))
   done-answered f d (Report g p2) b h k = with-data _ _ (report-bound p2 _ _ _)
+  done-answered f d (ReadBinaryOdd t a n) b h k = with-data _ _ (omega (arith, h .2, length-tlv-part 0x53 (fileBytes img t) a n (omega arith) (h .3)))
 
   shape-answered : (cmd : List ℕ) (a : Apdu) (x : Action) → AllBytes cmd → FromShape img s cmd a x → Worded x → Answered (done x img s (dataBy cmd a) buf)
   unfolding done words
@@ -142,6 +144,7 @@ step-status img s cmd buf = go (verdictOn img s (length buf))
     by (ReadRecord r a z) d k = unfold done says in omega arith
     by (SearchRecord r q ne) d k = unfold done searched says in ifElse-ind (λ (u : Outcome). u .answer .status ≤ 0x9000) (eqb (searchStatus (recordsOf img (r .kind)) d q ne) 0x9000) (λ e. omega arith) (λ e. word-most _ (search-word (recordsOf img (r .kind)) d q ne))
     by (Report g p2) d k = unfold done says in omega arith
+    by (ReadBinaryOdd t a n) d k = unfold done says in omega arith
 
     go : (x : Verdict) → stepBy x img s cmd buf .answer .status ≤ 0x9000
     go Accepted = unfold stepBy in by (decide img s cmd) (dataOf cmd) (decide-word img s cmd)

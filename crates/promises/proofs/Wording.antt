@@ -11,6 +11,9 @@ use borrow.Author.Tests.{eqb-true, leb-true}
 use Rattle.base.specs.Bytes.{part}
 use Rattle.base.proofs.Cases.{by-cases, ifElse-ind, false-true, and-left, and-right}
 use Rattle.objects_templates.specs.Search.{readSearch}
+use Rattle.objects_templates.specs.OffsetObject.{readOffsetObject}
+use Rattle.objects_templates.specs.declared.OffsetObject.{OffsetObject}
+use Rattle.objects_templates.specs.declared.OffsetObject.the-variants.{Offset, NoOffset}
 use Rattle.objects_templates.specs.Update.{readUpdate}
 use Rattle.objects_templates.specs.Reference.{readReference}
 use Rattle.objects_templates.specs.declared.Query.{Query}
@@ -30,11 +33,12 @@ use Rattle.store_files.specs.declared.File.the-variants.{RecordFile, Transparen
 use Rattle.store_files.specs.declared.Lookup.{Lookup}
 use Rattle.store_files.specs.declared.Lookup.the-variants.{Known, NoFile}
 use Rattle.store_kinds.specs.declared.rules.Rule.{Rule}
-use Rattle.machine_action.specs.Tests.{p1p2, idIn, orCurrent, onRecord, onTransparent, onBiometrics, onFile}
+use Rattle.machine_action.specs.Tests.{p1p2, idIn, orCurrent, idOrCurrent, onRecord, onTransparent, onBiometrics, onFile}
 use Rattle.machine_select.specs.Select.{selectAid, selectMaster, selectFile, selectBy, select}
 use Rattle.machine_select.specs.Fmm.{fmmOn, fmmNamed, fmmFile, fmmBy, fmm}
 use Rattle.machine_binary.specs.ReadBinary.{readNamed, readOffset, readBinaryOn, readBinary}
-use Rattle.machine_binary.specs.UpdateBinary.{updateNamed, updateOn, updateBy, updateBinary}
+use Rattle.machine_binary.specs.ReadBinaryOdd.{readOddOn, readOddBy, readBinaryOdd}
+use Rattle.machine_binary.specs.UpdateBinary.{updateOn, updateBy, updateBinary}
 use Rattle.machine_record.specs.AppendRecord.{appendOn, appendRecord}
 use Rattle.machine_record.specs.ReadRecord.{recordNamed, readFrom, readRecordOn, readRecord}
 use Rattle.machine_record.specs.SearchRecord.{fileIn, searchNamed, searchOn, searchBy, searchRecord}
@@ -64,7 +68,7 @@ use Rattle.machine_apdu.specs.declared.Apdu.{Apdu}
 use Rattle.machine_apdu.specs.declared.Apdu.the-variants.{Bad, Good}
 use Rattle.machine_apdu.specs.declared.Frame.{Frame}
 use Rattle.machine_action.specs.declared.Action.{Action}
-use Rattle.machine_action.specs.declared.Action.the-variants.{Status, SelectApplication, SelectFile, ReadBinary, UpdateBinary, Activate, AppendRecord, ReadRecord, SearchRecord, Report}
+use Rattle.machine_action.specs.declared.Action.the-variants.{Status, SelectApplication, SelectFile, ReadBinary, UpdateBinary, Activate, AppendRecord, ReadRecord, SearchRecord, Report, ReadBinaryOdd}
 use Rattle.machine_binary.specs.Activate.{activateFile}
 use Rattle.machine_dispatch.specs.Decide.{byIns, byOwnIns, byClass, byShape, decide}
 use Rattle.promises.specs.Words.{words}
@@ -205,6 +209,7 @@ Worded (AppendRecord r) = Unit {0}
 Worded (ReadRecord r a b) = Unit {0}
 Worded (SearchRecord r q ne) = Unit {0}
 Worded (Report g p2) = Unit {0}
+Worded (ReadBinaryOdd t o n) = Unit {0}
 
 module _ (img : List ℕ) (s : Session) (f : Frame) (d : List ℕ) where
   on-record : (x : Access) (n : Named) (go : Rule → Action) → ((r : Rule) → Worded (go r)) → Worded (onRecord (resolveRecord img s x n) go)
@@ -255,6 +260,16 @@ module _ (img : List ℕ) (s : Session) (f : Frame) (d : List ℕ) where
       inOrder-each Worded _ _ (refl, (refl, tt))
       (λ p. on-transparent (readNamed f) (readBinaryOn img (readOffset f) (f .ne)) (λ t. inOrder-each Worded _ _ (refl, tt) (λ p. tt)))
 
+  read-odd-word : Worded (readBinaryOdd img s f d)
+  unfolding readBinaryOdd
+  read-odd-word = inOrder-each Worded _ _ (refl, tt) (λ p. by (readOffsetObject d))
+    where
+      by : (x : OffsetObject) → Worded (readOddBy img s f x)
+      by NoOffset = refl
+      by (Offset o) =
+          unfold readOddOn in
+          on-transparent (idOrCurrent (p1p2 f)) (readOddOn img o (f .ne)) (λ t. inOrder-each Worded _ _ (refl, (refl, tt)) (λ p. tt))
+
   update-word : Worded (updateBinary img s f d)
   unfolding updateBinary
   update-word = inOrder-each Worded _ _ (refl, tt) (λ p. by (readUpdate d))
@@ -263,7 +278,7 @@ module _ (img : List ℕ) (s : Session) (f : Frame) (d : List ℕ) where
       by NoUpdate = refl
       by (Writing w) =
           unfold updateOn in
-          on-biometrics (updateNamed (p1p2 f)) (updateOn img w) (λ n. inOrder-each Worded _ _ (refl, (refl, tt)) (λ p. tt))
+          on-biometrics (idOrCurrent (p1p2 f)) (updateOn img w) (λ n. inOrder-each Worded _ _ (refl, (refl, tt)) (λ p. tt))
 
   activate-word : Worded (activateFile img s f)
   unfolding activateFile
@@ -314,11 +329,12 @@ module _ (img : List ℕ) (s : Session) (f : Frame) (d : List ℕ) where
       ifElse-ind Worded (eqb (f .header .cla) 0x00)
       (λ c. ifElse-ind Worded (eqb (f .header .ins) 0xA4) (λ e. select-word)
       (λ n. ifElse-ind Worded (eqb (f .header .ins) 0xB0) (λ e. read-binary-word)
+      (λ n. ifElse-ind Worded (eqb (f .header .ins) 0xB1) (λ e. read-odd-word)
       (λ n. ifElse-ind Worded (eqb (f .header .ins) 0xD7) (λ e. update-word)
       (λ n. ifElse-ind Worded (eqb (f .header .ins) 0x44) (λ e. activate-word)
       (λ n. ifElse-ind Worded (eqb (f .header .ins) 0xE2) (λ e. append-word)
       (λ n. ifElse-ind Worded (eqb (f .header .ins) 0xB2) (λ e. read-record-word)
-      (λ n. ifElse-ind Worded (eqb (f .header .ins) 0xA2) (λ e. search-word) (λ n. refl))))))))
+      (λ n. ifElse-ind Worded (eqb (f .header .ins) 0xA2) (λ e. search-word) (λ n. refl)))))))))
       (λ n. ifElse-ind Worded (eqb (f .header .cla) 0x80) (λ c. ifElse-ind Worded (eqb (f .header .ins) 0x5E) (λ e. fmm-word) (λ n. refl)) (λ n. refl))
 
 -- step 1

@@ -14,6 +14,8 @@ use Rattle.store_kinds.specs.declared.rules.Rule.{Rule}
 use Rattle.store_image.specs.Image.{has, present, wellFormed, body, recordsOf}
 use Rattle.objects_writer.specs.Number.{big}
 use Rattle.objects_templates.specs.Reference.{referenceData}
+use Rattle.objects_writer.specs.Writing.{tlv}
+use Rattle.objects_templates.specs.OffsetObject.{OffsetSize, offsetData}
 use Rattle.objects_templates.specs.Update.{updateData, UpdateSized}
 use Rattle.machine_rights.specs.Rights.{flagged}
 use Rattle.store_files.specs.Files.{idOf, fileBytes}
@@ -129,6 +131,38 @@ pub record Fetched (img : List ℕ) (s : Session) (f : Frame) (o : Outcome) : Ty
 -- [C13]
 abbrev pub Read-done : Type 0
 Read-done = (img : List ℕ) (s : Session) (cmd buf : List ℕ) (f : Frame) → Obeyed img s cmd buf f 0x00 0xB0 → Fetched img s f (step img s cmd buf)
+
+-- ---- READ BINARY with the odd INS, B1
+
+-- the data field is the writing of an offset. The reply is `53` with the file's bytes from that offset on: as many as the file has there, and
+-- a reply of at most Ne and at most 2,048 bytes can hold. The file becomes the current one. [C13] [Y10]
+pub record FetchedOdd (img : List ℕ) (s : Session) (cmd : List ℕ) (f : Frame) (o : Outcome) : Type 0 where
+  pub file : Transparent
+  pub offset : List ℕ
+  pub bytes : List ℕ
+  -- P1-P2 is the file's id, and 0000 means the current file
+  pub of-current : p1p2 f ≡ 0 → Inspected img s Current (TransparentFile file)
+  pub of-id : (p1p2 f ≡ 0 → ⊥) → Inspected img s (Id (p1p2 f)) (TransparentFile file)
+  pub asks : dataOf cmd ≡ offsetData offset
+  pub size : OffsetSize offset
+  pub told : dataIn o ≡ tlv 0x53 bytes
+  pub content : bytes ≡ part (fileBytes img file) (big offset) (length bytes)
+  pub some : 1 ≤ length bytes
+  pub inside : big offset + length bytes ≤ length (fileBytes img file)
+  pub fits : length (dataIn o) ≤ min (f .ne) 2048
+  -- one byte more would go past the file's end, or make the reply too long
+  pub as-many : (more : List ℕ) → length bytes < length more → big offset + length more ≤ length (fileBytes img file)
+      → min (f .ne) 2048 < length (tlv 0x53 more)
+  pub image-kept : o .image ≡ img
+  pub current : o .answer .session ≡ setFile s (TransparentFile file)
+
+-- [C13]
+abbrev pub Read-odd-done : Type 0
+Read-odd-done =
+    (img : List ℕ) (s : Session) (cmd buf : List ℕ) (f : Frame)
+    → AllBytes cmd
+    → Obeyed img s cmd buf f 0x00 0xB1
+    → FetchedOdd img s cmd f (step img s cmd buf)
 
 -- ---- SELECT
 

@@ -5,6 +5,7 @@ pub mod Calls
 pub mod Matches
 pub mod Promises
 pub mod Done
+pub mod Binary
 pub mod Linked
 pub mod Bodies
 pub mod Certificates

@@ -7,6 +7,6 @@ use Rattle.base.specs.Bytes.{part, putFits, put}
 use Rattle.store_files.specs.Files.{fileBytes}
 use Rattle.store_files.specs.declared.Transparent.{Transparent}
 
-pub stored : (img out last : List ℕ) (f g : Transparent) (offset n : ℕ) (r : Bool) (b : List ℕ) → f ≡ g → b ≡ part (fileBytes img g) offset n
-    → (r ≡ putFits out 0 b) × (last ≡ put out 0 b) → (r ≡ putFits out 0 (part (fileBytes img f) offset n)) × (last ≡ put out 0 (part (fileBytes img f) offset n))
-stored img out last f g offset n r b e q h = rw (e, ← q) h
+pub stored : (img out last : List ℕ) (f g : Transparent) (offset n at : ℕ) (r : Bool) (b : List ℕ) → f ≡ g → b ≡ part (fileBytes img g) offset n
+    → (r ≡ putFits out at b) × (last ≡ put out at b) → (r ≡ putFits out at (part (fileBytes img f) offset n)) × (last ≡ put out at (part (fileBytes img f) offset n))
+stored img out last f g offset n at r b e q h = rw (e, ← q) h

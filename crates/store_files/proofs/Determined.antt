@@ -30,4 +30,4 @@ pub size-determined : Determined size-kinds.ps size-kinds.r size-reads.Post
 size-determined κs a e f p q i = ((p ∙ sym q) i, e .1)
 
 pub put-bytes-determined : Determined put-bytes-kinds.ps put-bytes-kinds.r put-bytes-reads.Post
-put-bytes-determined κs a e f p q i = ((p .0 ∙ sym (q .0)) i, (tt, (tt, (tt, (tt, ((p .1 ∙ sym (q .1)) i, tt))))))
+put-bytes-determined κs a e f p q i = ((p .0 ∙ sym (q .0)) i, (tt, (tt, (tt, (tt, ((p .1 ∙ sym (q .1)) i, (tt, tt)))))))

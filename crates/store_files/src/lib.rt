@@ -228,11 +228,18 @@ fn directory_of(image: &[u8]) -> Directory
     Directory { bytes, len: at }
 }
 
-// Stores the n bytes from offset on of the first len of bytes.
-fn put_first(bytes: [u8; 44], len: usize, offset: usize, n: usize, out: &mut [u8]) -> bool
-    ensures { λ r. ⌜ (r ≡ putFits (now (out .entry)) 0 (part (take len bytes) offset n)) × (now (out .exit) ≡ put (now (out .entry)) 0 (part (take len bytes) offset n)) ⌝ }
+// Stores the n bytes from offset on of the first len of bytes, from `at` of out on.
+fn put_first(
+    bytes: [u8; 44],
+    len: usize,
+    offset: usize,
+    n: usize,
+    out: &mut [u8],
+    at: usize,
+) -> bool
+    ensures { λ r. ⌜ (r ≡ putFits (now (out .entry)) at (part (take len bytes) offset n)) × (now (out .exit) ≡ put (now (out .entry)) at (part (take len bytes) offset n)) ⌝ }
 {
-    base::put(out, 0, base::part(base::part(&bytes, 0, len), offset, n))
+    base::put(out, at, base::part(base::part(&bytes, 0, len), offset, n))
 }
 
 // How many bytes a transparent file has.
@@ -252,23 +259,30 @@ pub fn size(image: &[u8], t: Transparent) -> usize
     }
 }
 
-// Stores the n bytes of a transparent file from offset on, cut at its end, at the start of out, where they fit.
-pub fn put_bytes(image: &[u8], t: Transparent, offset: usize, n: usize, out: &mut [u8]) -> bool
-    ensures { λ r. ⌜ (r ≡ putFits (now (out .entry)) 0 (part (fileBytes (now (image .entry)) t) offset n)) × (now (out .exit) ≡ put (now (out .entry)) 0 (part (fileBytes (now (image .entry)) t) offset n)) ⌝ }
+// Stores the n bytes of a transparent file from offset on, cut at its end, from `at` of out on, where they fit.
+pub fn put_bytes(
+    image: &[u8],
+    t: Transparent,
+    offset: usize,
+    n: usize,
+    out: &mut [u8],
+    at: usize,
+) -> bool
+    ensures { λ r. ⌜ (r ≡ putFits (now (out .entry)) at (part (fileBytes (now (image .entry)) t) offset n)) × (now (out .exit) ≡ put (now (out .entry)) at (part (fileBytes (now (image .entry)) t) offset n)) ⌝ }
 {
     match t {
         Transparent::Info => {
             let info = INFO;
-            base::put(out, 0, base::part(&info, offset, n))
+            base::put(out, at, base::part(&info, offset, n))
         }
         Transparent::Dir => {
             let d = directory_of(image);
             let bytes = d.bytes;
-            put_first(bytes, d.len, offset, n, out)
+            put_first(bytes, d.len, offset, n, out, at)
         }
         Transparent::Biometrics(k) => {
             let s = biometrics::written_bytes(store_image::body(image, rules::biometrics_kind(k)));
-            base::put(out, 0, base::part(s, offset, n))
+            base::put(out, at, base::part(s, offset, n))
         }
     }
 }

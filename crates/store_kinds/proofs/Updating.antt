@@ -16,7 +16,7 @@ use Rattle.base.proofs.Cases.{ifElse-ind, allOf-facts, allOf-accepted}
 use Rattle.base.proofs.Parts.{Agree, drop-take}
 use Rattle.base.proofs.Runs.{getD-sets-before, drop-sets-past, drop-sets-add, put-accepted}
 use Rattle.store_records.specs.Little.{le32, bytes32}
-use Rattle.store_kinds.specs.Biometrics.{state, written, room, writtenBytes, bioOk, updatable, updated, update, activate}
+use Rattle.store_kinds.specs.Biometrics.{state, written, room, writtenBytes, largestRoom, bioOk, updatable, updated, update, activate}
 use Rattle.store_records.proofs.Numbers.{le32-agree, le32-stored, length-bytes32}
 
 -- ---- whether a body is one of biometrics
@@ -25,7 +25,7 @@ module _ (xs : List ℕ) where
   pub record BioOk : Type 0 where
     pub long : 5 ≤ length xs
     pub known : state xs ≤ 1
-    pub small : room xs ≤ 32768
+    pub small : room xs ≤ largestRoom
     pub within : written xs ≤ room xs
 
   pub bioOk-facts : bioOk xs ≡ true → BioOk
@@ -46,11 +46,11 @@ module _ (xs : List ℕ) where
   unfolding bioOk allOf
   bioOk-state h = simp (lt-leb _ _ h, and-false)
 
-  pub bioOk-large : 32768 < room xs → bioOk xs ≡ false
+  pub bioOk-large : largestRoom < room xs → bioOk xs ≡ false
   unfolding bioOk allOf
   bioOk-large h = simp (lt-leb _ _ h, and-false)
 
-  pub bioOk-rest : 5 ≤ length xs → state xs ≤ 1 → room xs ≤ 32768 → bioOk xs ≡ leb (written xs) (room xs)
+  pub bioOk-rest : 5 ≤ length xs → state xs ≤ 1 → room xs ≤ largestRoom → bioOk xs ≡ leb (written xs) (room xs)
   unfolding bioOk allOf
   bioOk-rest h i j = simp (le-leb _ _ h, le-leb _ _ i, le-leb _ _ j, and-true)
 

@@ -25,9 +25,13 @@ room xs = length xs - 5
 unfoldable pub writtenBytes : List ℕ → List ℕ
 writtenBytes xs = part xs 5 (written xs)
 
--- the state is one of the two, the room has at most 32,768 bytes, and no more are written than there is room for [N4]
+-- the most bytes that a file may have room for [N4]
+abbrev pub largestRoom : ℕ
+largestRoom = 131072
+
+-- the state is one of the two, the room is not too large, and no more is written than there is room for [N4]
 unfoldable pub bioOk : List ℕ → Bool
-bioOk xs = allOf (leb 5 (length xs) ∷ leb (state xs) 1 ∷ leb (room xs) 32768 ∷ leb (written xs) (room xs) ∷ [])
+bioOk xs = allOf (leb 5 (length xs) ∷ leb (state xs) 1 ∷ leb (room xs) largestRoom ∷ leb (written xs) (room xs) ∷ [])
 
 -- ---- a write
 

@@ -6,6 +6,9 @@ ghost use Prim.Native.Nat.{_+_, _<_, max};
 ghost use lib.ListN.{length};
 ghost use Rattle.store_kinds.specs.Biometrics.{state, written, room, writtenBytes, bioOk, updatable, updated, update, activate};
 
+// The most bytes that a file may have room for.
+pub const LARGEST_ROOM: usize = 131072;
+
 // 0 Deactivated, 1 Activated.
 pub fn state(body: &[u8]) -> usize
     ensures { λ r. ⌜ r ≡ state (now (body .entry)) ⌝ }
@@ -47,7 +50,7 @@ pub fn well_formed(body: &[u8]) -> bool
     if 1 < state(body) {
         return false;
     }
-    if 32768 < room(body) {
+    if LARGEST_ROOM < room(body) {
         return false;
     }
     written(body) <= room(body)

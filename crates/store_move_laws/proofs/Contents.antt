@@ -16,7 +16,7 @@ use Rattle.store_records.specs.Body.{count, place, firsts, records, used, bodyO
 use Rattle.store_records.proofs.Numbers.{le16-agree, le32-agree}
 use Rattle.store_records.proofs.Bodies.{place-low, bodyOk-accepted, bodyOk-facts}
 use Rattle.store_records.proofs.Appending.{place-agree, firsts-agree, okTo-agree}
-use Rattle.store_kinds.specs.Biometrics.{state, written, room, writtenBytes, bioOk}
+use Rattle.store_kinds.specs.Biometrics.{state, written, room, writtenBytes, largestRoom, bioOk}
 use Rattle.store_kinds.specs.Rules.{ruleOf, isBiometrics, kindOkBy, kindOk}
 use Rattle.store_kinds.specs.declared.rules.Key.the-variants.{Kind}
 use Rattle.store_kinds.specs.declared.rules.Ruled.{Ruled}
@@ -257,6 +257,6 @@ unfolding room
 zeros-wellFormed k xs o =
     by-cases (isBiometrics k)
     (λ b. let f = bioOk-facts xs (sym (biometrics-kind k xs b) ∙ o) in
-    biometrics-kind k (zeros (length xs)) b ∙ empty-biometrics (length xs) (f .long) ∙ le-leb (length xs) 32773 (omega (arith, f .small)))
+    biometrics-kind k (zeros (length xs)) b ∙ empty-biometrics (length xs) (f .long) ∙ le-leb (length xs - 5) largestRoom (f .small))
     (λ b. let r = record-kind k xs b o in
     r .2 (zeros (length xs)) ∙ empty-records (r .0) (r .1) (length xs) ∙ le-leb _ _ (bodyOk-facts (r .0) (r .1) xs (sym (r .2 xs) ∙ o) .long))

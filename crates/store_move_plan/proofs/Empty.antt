@@ -8,10 +8,10 @@ use lib.ListN.{length, getD, length-replicate, getD-replicate, List·getD-eq-def
 use lib.Dec.{leb, ltb}
 use borrow.Author.Tests.{le-leb, ltb-true, ltb-false}
 use Rattle.base.specs.Choice.{allOf}
-use Rattle.base.proofs.Cases.{by-cases, leb-same}
+use Rattle.base.proofs.Cases.{by-cases}
 use Rattle.store_records.specs.Little.{le16, le32}
 use Rattle.store_records.specs.Body.{count, okTo, bodyOk}
-use Rattle.store_kinds.specs.Biometrics.{state, written, room, bioOk}
+use Rattle.store_kinds.specs.Biometrics.{state, written, room, largestRoom, bioOk}
 use Rattle.store_move_plan.specs.Rooms.{zeros}
 
 zero-byte : (n i : ℕ) → getD (zeros n) i 0 ≡ 0
@@ -45,10 +45,9 @@ pub empty-records : (L M n : ℕ) → bodyOk L M (zeros n) ≡ leb 2 n
 unfolding bodyOk okTo allOf
 empty-records L M n = let l : length (zeros n) ≡ n = length-replicate n 0 in simp (empty-count n, l, le-leb 0 M (omega arith), and-true)
 
--- a biometrics file has room for its state and its length, and at most 32,768 bytes for what is written
-pub empty-biometrics : (n : ℕ) → 5 ≤ n → bioOk (zeros n) ≡ leb n 32773
+-- a biometrics file has room for its state and its length, and no more than there may be for what is written
+pub empty-biometrics : (n : ℕ) → 5 ≤ n → bioOk (zeros n) ≡ leb (n - 5) largestRoom
 unfolding bioOk allOf room
 empty-biometrics n h =
     let l : length (zeros n) ≡ n = length-replicate n 0 in
-    let s : leb (n - 5) 32768 ≡ leb n 32773 = leb-same (n - 5) 32768 n 32773 (λ i. omega arith) (λ i. omega arith) in
-    simp (l, empty-state n, empty-written n, le-leb 5 n h, le-leb 0 1 (omega arith), le-leb 0 (n - 5) (omega arith), s, and-true)
+    simp (l, empty-state n, empty-written n, le-leb 5 n h, le-leb 0 1 (omega arith), le-leb 0 (n - 5) (omega arith), and-true)

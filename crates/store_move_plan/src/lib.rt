@@ -1,5 +1,6 @@
 // A list of kinds with the lengths of their rooms, and whether it lays out a card. A row has the bytes of a section's head: 4-byte
 // little-endian length, 2-byte little-endian kind.
+use store_kinds::biometrics::LARGEST_ROOM;
 use store_kinds::rules::BIOMETRICS;
 use store_kinds::rules::Key;
 use store_kinds::rules::RULES;
@@ -83,7 +84,7 @@ fn room_ok(kind: usize, len: usize) -> bool
             if len < 5 {
                 return false;
             }
-            len <= 32773
+            len - 5 <= LARGEST_ROOM
         }
     }
 }

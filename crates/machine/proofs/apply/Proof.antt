@@ -76,6 +76,12 @@ enum-known-d-10 c = search needs
 report-requires : tie.Need-report-requires
 report-requires c κs = search needs
 
+enum-known-d-11 : tie.Need-enum-known-d-11
+enum-known-d-11 c = search needs
+
+read-binary-odd-requires : tie.Need-read-binary-odd-requires
+read-binary-odd-requires c κs = (c .before .before .before .before .before .before .before .before .pre .1, rw (c .before .before .before .d11 .given .1) at (c .before .before .before .before .before .before .before .before .pre .2))
+
 same-length : tie.Need-same-length
 same-length c = search needs
 
@@ -167,6 +173,16 @@ returns-10 : tie.Need-returns-10
 unfolding done
 returns-10 c = rw (c .before .before .before .before .before .before .d10 .given .1) (c .before .before .report .ensures)
 
+same-length-18 : tie.Need-same-length-18
+same-length-18 c = search needs
+
+same-length-19 : tie.Need-same-length-19
+same-length-19 c = search needs
+
+returns-11 : tie.Need-returns-11
+unfolding done
+returns-11 c = rw (c .before .before .before .before .before .before .d11 .given .1) (c .before .before .read-binary-odd .ensures)
+
 pub apply-spec : {M : Type 1} → statement M
 apply-spec =
     tie.close
@@ -194,6 +210,8 @@ apply-spec =
     search-requires
     enum-known-d-10
     report-requires
+    enum-known-d-11
+    read-binary-odd-requires
     same-length
     returns
     same-length-2
@@ -220,4 +238,7 @@ apply-spec =
     returns-9
     same-length-16
     same-length-17
-    returns-10)
+    returns-10
+    same-length-18
+    same-length-19
+    returns-11)

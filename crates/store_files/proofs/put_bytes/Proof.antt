@@ -57,21 +57,21 @@ same-length c = search needs
 
 returns : tie.Need-returns
 unfolding fileBytes info
-returns c = let a = c .before .before .before .before .before .before .before .before .before .before .args in stored (now (a .image)) _ _ _ _ (a .offset) (a .n) _ _ (c .before .before .before .before .before .before .enum-told .given .1) (c .before .before .before .part .ensures) (c .before .before .put .ensures)
+returns c = let a = c .before .before .before .before .before .before .before .before .before .before .args in stored (now (a .image)) _ _ _ _ (a .offset) (a .n) (a .at) _ _ (c .before .before .before .before .before .before .enum-told .given .1) (c .before .before .before .part .ensures) (c .before .before .put .ensures)
 
 same-length-2 : tie.Need-same-length-2
 same-length-2 c = search needs
 
 returns-2 : tie.Need-returns-2
 unfolding fileBytes
-returns-2 c = let a = c .before .before .before .before .before .before .before .before .before .before .args in stored (now (a .image)) _ _ _ _ (a .offset) (a .n) _ _ (c .before .before .before .before .before .before .enum-told2 .given .1) (ap (λ (x : List ℕ). part x (a .offset) (a .n)) (c .before .before .before .before .before .directory-of .ensures .0)) (c .before .before .put-first .ensures)
+returns-2 c = let a = c .before .before .before .before .before .before .before .before .before .before .args in stored (now (a .image)) _ _ _ _ (a .offset) (a .n) (a .at) _ _ (c .before .before .before .before .before .before .enum-told2 .given .1) (ap (λ (x : List ℕ). part x (a .offset) (a .n)) (c .before .before .before .before .before .directory-of .ensures .0)) (c .before .before .put-first .ensures)
 
 same-length-3 : tie.Need-same-length-3
 same-length-3 c = search needs
 
 returns-3 : tie.Need-returns-3
 unfolding fileBytes
-returns-3 c = let a = c .before .before .before .before .before .before .before .before .before .before .before .before .before .args in stored (now (a .image)) _ _ _ _ (a .offset) (a .n) _ _ (c .before .before .before .before .before .before .before .before .before .t .given .1) (c .before .before .before .part2 .ensures ∙ ap (λ (x : List ℕ). part x (a .offset) (a .n)) (c .before .before .before .before .before .written-bytes .ensures ∙ ap writtenBytes (c .before .before .before .before .before .before .body .ensures ∙ ap (body _) (c .before .before .before .before .before .before .before .biometrics-kind .ensures)))) (c .before .before .put2 .ensures)
+returns-3 c = let a = c .before .before .before .before .before .before .before .before .before .before .before .before .before .args in stored (now (a .image)) _ _ _ _ (a .offset) (a .n) (a .at) _ _ (c .before .before .before .before .before .before .before .before .before .t .given .1) (c .before .before .before .part2 .ensures ∙ ap (λ (x : List ℕ). part x (a .offset) (a .n)) (c .before .before .before .before .before .written-bytes .ensures ∙ ap writtenBytes (c .before .before .before .before .before .before .body .ensures ∙ ap (body _) (c .before .before .before .before .before .before .before .biometrics-kind .ensures)))) (c .before .before .put2 .ensures)
 
 pub put-bytes-spec : {M : Type 1} → statement M
 put-bytes-spec =

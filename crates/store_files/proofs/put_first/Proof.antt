@@ -27,7 +27,7 @@ returns : tie.Need-returns
 returns c =
     let a = c .before .before .before .before .before .before .before .before .args in
     let e = c .before .before .before .part2 .ensures ∙ ap (λ (x : List ℕ). part x (a .offset) (a .n)) (c .before .before .before .before .part .ensures) in
-    (c .before .before .put .ensures .0 ∙ ap (putFits (now (a .out)) 0) e, c .before .before .put .ensures .1 ∙ ap (put (now (a .out)) 0) e)
+    (c .before .before .put .ensures .0 ∙ ap (putFits (now (a .out)) (a .at)) e, c .before .before .put .ensures .1 ∙ ap (put (now (a .out)) (a .at)) e)
 
 pub put-first-spec : {M : Type 1} → statement M
 put-first-spec =

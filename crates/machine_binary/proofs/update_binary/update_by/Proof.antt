@@ -4,8 +4,8 @@ use borrow.Author.Needs.{needs}
 use Rattle.machine_binary.proofs.update_binary.update_by.Statement.{statement}
 use Rattle.machine_binary.proofs.update_binary.update_by.Tie as tie
 
-update-named-requires : tie.Need-update-named-requires
-update-named-requires c κs = search needs
+id-or-current-requires : tie.Need-id-or-current-requires
+id-or-current-requires c κs = search needs
 
 resolve-biometrics-requires : tie.Need-resolve-biometrics-requires
 resolve-biometrics-requires c κs = search needs
@@ -20,16 +20,16 @@ update-on-requires : tie.Need-update-on-requires
 update-on-requires c κs = search needs
 
 returns : tie.Need-returns
-returns c = simp (← (c .before .before .before .before .update-named .ensures), sym (c .before .before .before .resolve-biometrics .ensures) ∙ (c .before .x .given .1))
+returns c = simp (← (c .before .before .before .before .id-or-current .ensures), sym (c .before .before .before .resolve-biometrics .ensures) ∙ (c .before .x .given .1))
 
 returns-2 : tie.Need-returns-2
-returns-2 c = simp (← (c .before .before .before .before .before .update-named .ensures), sym (c .before .before .before .before .resolve-biometrics .ensures) ∙ (c .before .before .n .given .1)) (c .update-on .ensures)
+returns-2 c = simp (← (c .before .before .before .before .before .id-or-current .ensures), sym (c .before .before .before .before .resolve-biometrics .ensures) ∙ (c .before .before .n .given .1)) (c .update-on .ensures)
 
 pub update-by-spec : {M : Type 1} → statement M
 update-by-spec =
     tie.close
     (tie.spec
-    update-named-requires
+    id-or-current-requires
     resolve-biometrics-requires
     enum-known-x
     enum-known-n
