@@ -2,7 +2,7 @@
 """Makes what the program `test_lower` is run on, and what it must write: crates/test_lower/stdin and stdout.
 
 The answers come from a model of its own, written from the rules of the card image, of data objects and of the data of SEARCH
-RECORD, UPDATE BINARY and FMM (docs/RULES.md). Where bytes are not well formed the rules say nothing, and the model follows
+RECORD, UPDATE BINARY, READ BINARY B1 and FMM (docs/RULES.md). Where bytes are not well formed the rules say nothing, and the model follows
 docs/DECISIONS.md: numbers past the end read as 0, a part is cut at the end, a walk goes by the count, and what cannot be
 written changes nothing.
 
@@ -74,7 +74,7 @@ def records_ok(body, longest, most):
 
 def biometrics_ok(body):
     room = len(body) - 5
-    return 0 <= room <= 32768 and body[0] in (0, 1) and little(body, 1, 4) <= room
+    return 0 <= room <= 131072 and body[0] in (0, 1) and little(body, 1, 4) <= room
 
 
 def body_ok(kind, body):
@@ -238,7 +238,12 @@ def search_of(data):
 
 def update_of(data):
     offset, written = in_order(data, (0, len(data)), "54", "53")
-    return f"{big(data, sized(offset, 1, 2))} {place(written)}"
+    return f"{big(data, sized(offset, 1, 3))} {place(written)}"
+
+
+def offset_of(data):
+    (offset,) = in_order(data, (0, len(data)), "54")
+    return str(big(data, sized(offset, 1, 3)))
 
 
 def reference_of(data):
@@ -273,6 +278,12 @@ def length_bytes(n):
     if n <= 0x7F:
         return bytes([n])
     return bytes([0x81, n]) if n <= 0xFF else bytes([0x82]) + n.to_bytes(2, "big")
+
+
+def longest_within(limit, most):
+    """The greatest number of bytes, `most` or fewer, whose object with a tag of one byte has at most `limit`; 0 where none has. (Above
+    the limit no number need be tried.)"""
+    return max(n for n in range(min(most, limit) + 1) if n == 0 or 1 + len(length_bytes(n)) + n <= limit)
 
 
 def head_bytes(tag, n):
@@ -428,6 +439,10 @@ def update_data_case(data):
     case(54, "update " + read_by(update_of, data), a=data)
 
 
+def offset_case(data):
+    case(58, "offset " + read_by(offset_of, data), a=data)
+
+
 def reference_case(data):
     case(55, "reference " + read_by(reference_of, data), a=data)
 
@@ -452,6 +467,10 @@ def matches_case(record, offset, number, text):
 
 def fewest_case(n):
     case(70, f"fewest {fewest(n)}", n)
+
+
+def within_case(limit, most):
+    case(73, f"longest_within {longest_within(limit, most)}", limit, most)
 
 
 def written_case(op, name, out, at, tag, n, run):
@@ -574,7 +593,8 @@ def whole_images():
 
 
 def large_images():
-    """Images of 262,144 bytes and of one more, as the free room of their last file makes them; rooms of 32,768 bytes and of one more."""
+    """Images of 262,144 bytes and of one more, as the free room of their last file makes them; rooms of 131,072 bytes and of one more, and of
+    32,768 and of one more, which was too many once."""
     for last in (0x021A, 0x031A):
         files = files_of([TRAVEL, VISA] if last == 0x021A else NEEDED)
         for size in (262143, 262144, 262145, 262144 + 6):
@@ -582,7 +602,7 @@ def large_images():
             image_case(image_of({**files, last: files[last] + bytes(size - len(image))}))
     image = image_of(files_of([TRAVEL, VISA]))
     image_case(image + bytes(262144 - len(image)))
-    for room in (32767, 32768, 32769, 65536):
+    for room in (32768, 32769, 65535, 65536, 131071, 131072, 131073):
         for w in (0, 1, room - 1, room, room + 1):
             body = biometrics_of(RANDOM.randint(0, 1), w, bytes(room))
             kind_case(0x0440, body)
@@ -921,7 +941,7 @@ def updates():
         for parts in ((offset, data), (data, offset), (offset,), (data,), (), (offset, data, data), (offset, offset, data)):
             update_data_case(b"".join(parts) + more)
             update_data_case(more + b"".join(parts))
-    for v in (b"", b"\x00", b"\x00\x00", b"\x12\x34", b"\x00\x00\x00", b"\x01\x02\x03"):
+    for v in OFFSETS:
         update_data_case(written(("54", v)) + data)
     update_data_case(offset + written(("C0", b"\xaa\xbb")))
     for i in range(len(plain)):
@@ -929,10 +949,31 @@ def updates():
         for by in (1, 0xFF, 0x80):
             update_data_case(plain[:i] + bytes([(plain[i] + by) % 256]) + plain[i + 1 :])
     for _ in range(250):
-        made = written(("54", some_bytes(RANDOM.choice((1, 2))))) + written(("53", some_bytes(RANDOM.randint(0, 9))))
+        made = written(("54", some_bytes(RANDOM.choice((1, 2, 3))))) + written(("53", some_bytes(RANDOM.randint(0, 9))))
         for _ in range(RANDOM.randint(0, 2)):
             made = damage_bytes(made)
         update_data_case(made)
+
+
+# of none to five bytes, with leading zeros, at the borders of one, two and three bytes
+OFFSETS = [b"", b"\x00", b"\xff", b"\x00\x00", b"\x12\x34", b"\x7f\xff", b"\xff\xff", b"\x00\x00\x00", b"\x00\x00\x07", b"\x01\x02\x03", b"\x01\x00\x00",
+           b"\x01\xff\xff", b"\x02\x00\x00", b"\xff\xff\xff", bytes(4), b"\x00\x01\x00\x00", b"\x01\x00\x00\x00", bytes(5)]
+
+
+def offsets():
+    """The data of READ BINARY B1: `54` alone."""
+    for v in OFFSETS:
+        for form in (0, 1, 2, 3, 4):
+            offset_case(written(("54", v), {(): form}))
+        for more in (b"\x00", b"\x54\x01\x08", b"\x53\x00", b"\xc0\x00"):
+            offset_case(written(("54", v)) + more)
+            offset_case(more + written(("54", v)))
+    for tag in ("53", "55", "D4", "5400", "7F76", "02"):
+        offset_case(written((tag, b"\x01\x01")))
+    for data in (b"", b"\x54", b"\x54\x01", b"\x54\x02\x01", b"\x54\x03\x01\x02", b"\x54\x80\x01", b"\x54\x80\x01\x00\x00"):
+        offset_case(data)
+    for _ in range(250):
+        offset_case(damage_bytes(written(("54", some_bytes(RANDOM.randint(1, 3))))))
 
 
 def references():
@@ -1048,6 +1089,9 @@ def writing():
         for room in range(7):
             put_head_case(b"." * room, 0, 0x7F76, n)
             put_head_case(b"." * room, 1, 0x51, n)
+    for limit in [*range(7), *range(125, 136), *range(252, 265), 1024, 2047, 2048, 2049, 65534, 65535]:
+        for most in (0, 1, 2, 126, 127, 128, 129, 254, 255, 256, 257, 2043, 2044, 2045, 131072, HUGE):
+            within_case(limit, most)
     for at in (0, 3, 4, 5, 6, 7, 2**32, HUGE - 1, HUGE):
         put_head_case(b"......", at, 0x51, 5)
         put_number_case(b"......", at, 0x02, 5)
@@ -1062,7 +1106,7 @@ def writing():
 GROUPS = (
     [whole_images, large_images, torn_images, wrong_kinds, lone_files, damaged_records, damaged_biometrics, appends, rules]
     + [random_images, random_bodies]
-    + [lengths, searches, updates, references, depths, windows, long_strings, random_windows, writing]
+    + [lengths, searches, updates, offsets, references, depths, windows, long_strings, random_windows, writing]
 )
 
 

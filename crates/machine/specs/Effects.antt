@@ -33,7 +33,7 @@ searched img s d buf r q ne =
     (says normal (searchReply rs d q) (placed s (OnRecord (r .id) (getD (searchHits rs d q) 0 0))) img buf)
     (says (searchStatus rs d q ne) [] s img buf)
 
--- d is the command's data field [O13] [L6] [L7] [Y5] [Y6] [Y10] [W5] [A2] [G4] [J5] [J6] [Z4] [Z8]
+-- d is the command's data field [O13] [L6] [L7] [Y5] [Y6] [Y10] [Y11] [W5] [A2] [G4] [J5] [J6] [Z4] [Z8]
 unfoldable pub done : Action → List ℕ → Session → List ℕ → List ℕ → Outcome
 done (Status w) img s d buf = says w [] s img buf
 -- an application, or the master file, has no current file at first

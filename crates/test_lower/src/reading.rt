@@ -1,5 +1,6 @@
 // Cases of objects_reader::head, objects_reader::number, templates and the depth of objects_reader::reader.
 use objects_reader::head::Head;
+use objects_templates::OffsetObject;
 use objects_templates::Query;
 use objects_templates::Reference;
 use objects_templates::Search;
@@ -83,6 +84,14 @@ fn update(s: &[u8]) {
     }
 }
 
+fn offset(s: &[u8]) {
+    program_console::word(b"offset");
+    match objects_templates::read_offset_object(s) {
+        OffsetObject::Offset(n) => program_console::field(n),
+        OffsetObject::NoOffset => program_console::word(b" refused"),
+    }
+}
+
 fn reference(s: &[u8]) {
     program_console::word(b"reference");
     match objects_templates::read_reference(s) {
@@ -114,6 +123,7 @@ pub(crate) fn answer(op: usize, x: usize, a: &[u8]) -> bool {
         55 => reference(a),
         56 => four(a),
         57 => five(a),
+        58 => offset(a),
         _ => return false,
     }
     true
