@@ -1,10 +1,10 @@
 //! Files that are read by READ BINARY B1 and written at offsets of up to three bytes: on a small
-//! card each status word and each edge of a reply's length, then a file that only three bytes reach
-//! the end of, and the largest room there is.
+//! card each status word and each edge of a reply's length, then a file of the largest room there
+//! is, which is written to its end.
 
 use crate::hex::hex;
 use crate::line::{card, moved, opened, refused, run, select, Line};
-use crate::make::{self, Apdu, RIGHTS_LEN};
+use crate::make::{self, Apdu, LARGEST_ROOM, RIGHTS_LEN};
 
 const CERTIFICATES: u16 = 0x031A;
 /// A file of [`SIZE`] bytes, an empty one, and one that the session may not read: their kinds.
@@ -19,9 +19,7 @@ const CERTIFICATES_ID: u16 = 0x011A;
 
 /// The bytes written in the small file: enough for the longest reply.
 const SIZE: usize = 2_100;
-/// And in the large one: more than two bytes of offset reach.
-const LARGE: usize = 65_536 + SIZE;
-const LARGEST_BODY: usize = 131_077;
+const LARGEST_BODY: usize = 5 + LARGEST_ROOM;
 
 const ATR_INFO: [u8; 16] = [
     0x47, 0x03, 0x86, 0x01, 0x60, 0x7F, 0x66, 0x08, 0x02, 0x02, 0x04, 0x00, 0x02, 0x02, 0x08, 0x02,
@@ -39,7 +37,7 @@ pub fn lines() -> Vec<Line> {
         written_at_three_bytes(),
         windows_of_three_bytes(),
         to_the_largest_room(),
-        a_large_file(),
+        the_largest_file(),
     ]
     .concat()
 }
@@ -49,36 +47,43 @@ const PIECE: usize = 1_015;
 /// The most bytes that one reply of B1 has of a file.
 const PORTION: usize = 2_044;
 
-/// A file of the largest room, written to its end by UPDATE BINARY and read back by B1, and by B0 as
-/// far as that reaches. It is too long for a sample.
-pub fn the_largest_file() -> Vec<Line> {
-    let largest = make::LARGEST_ROOM;
-    let pieces = |of: usize| {
-        (0..largest)
-            .step_by(of)
-            .map(move |at| (at, of.min(largest - at)))
-    };
+/// Where the parts of the largest room begin that are written or read so many bytes at a time, and
+/// how many bytes each has.
+fn parts(of: usize) -> impl Iterator<Item = (usize, usize)> {
+    let part = move |at| (at, of.min(LARGEST_ROOM - at));
+    (0..LARGEST_ROOM).step_by(of).map(part)
+}
+
+/// A card with a file of the largest room, written to its end by UPDATE BINARY.
+fn written_to_its_end() -> Vec<Line> {
     let at = |offset| make::number(offset, make::fewest_bytes(offset));
-    let plain = |offset| format!("{}9000", hex(&bytes(offset, 2_048)));
     let mut lines = a_card(0);
-    lines.extend([moved(&rooms(LARGEST_BODY), 0), select(3)]);
+    lines.extend([
+        refused(&rooms(LARGEST_BODY + 1), 10),
+        moved(&rooms(LARGEST_BODY), 0),
+        select(3),
+    ]);
     lines.extend(
-        pieces(PIECE).map(|(offset, n)| update(FULL_ID, at(offset), &bytes(offset, n), "9000")),
+        parts(PIECE).map(|(offset, n)| update(FULL_ID, at(offset), &bytes(offset, n), "9000")),
     );
     lines.extend([
-        update(FULL_ID, at(largest), &[], "9000"),
-        update(FULL_ID, at(largest), &[0], "6a84"),
-        update(FULL_ID, at(largest + 1), &[], "6a80"),
+        update(FULL_ID, at(LARGEST_ROOM), &[], "9000"),
+        update(FULL_ID, at(LARGEST_ROOM), &[0], "6a84"),
+        update(FULL_ID, at(LARGEST_ROOM + 1), &[], "6a80"),
         total("7f780581030200009000"),
     ]);
-    lines.extend(pieces(PORTION).map(|(offset, n)| reads(0x0000, offset, 65_536, n)));
-    lines.push(fails(0x0000, largest, 65_536, "6b00"));
-    lines.extend(
-        (0..0x8000)
-            .step_by(2_048)
-            .map(|offset| b0(offset, 0, &plain(offset))),
-    );
-    lines.push(b0(0x7FFF, 0, &plain(0x7FFF)));
+    lines
+}
+
+/// That file, read back as a whole by B1, and by B0 as far as that reaches. This is too long for a
+/// sample.
+pub fn all_of_the_largest() -> Vec<Line> {
+    let mut lines = written_to_its_end();
+    lines.extend(parts(PORTION).map(|(offset, n)| reads(0x0000, offset, 65_536, n)));
+    lines.push(fails(0x0000, LARGEST_ROOM, 65_536, "6b00"));
+    let plain = |offset| b0(offset, 0, &plain(offset, 2_048));
+    lines.extend((0..0x8000).step_by(2_048).map(plain));
+    lines.push(plain(0x7FFF));
     lines
 }
 
@@ -90,6 +95,11 @@ fn byte(at: usize) -> u8 {
 /// So many bytes of a file from an offset on.
 fn bytes(offset: usize, count: usize) -> Vec<u8> {
     (offset..offset + count).map(byte).collect()
+}
+
+/// The answer of B0 with so many bytes from an offset on.
+fn plain(offset: usize, count: usize) -> String {
+    format!("{}9000", hex(&bytes(offset, count)))
 }
 
 /// A reply of these bytes: wrapped, and the status word.
@@ -281,7 +291,7 @@ fn offsets() -> Vec<Line> {
 
 /// Where the file ends, with each form of the length.
 fn the_end() -> Vec<Line> {
-    let mut lines: Vec<Line> = [1, 2, 126, 127, 128, 129, 254, 255, 256, 257]
+    let mut lines: Vec<Line> = [1, 2, 126, 127, 128, 129, 200, 254, 255, 256, 257, 999]
         .map(|count| reads(FULL_ID, SIZE - count, 65_536, count))
         .to_vec();
     lines.extend([
@@ -306,7 +316,6 @@ fn the_end() -> Vec<Line> {
 }
 
 fn the_same_by_b0() -> Vec<Line> {
-    let plain = |offset, count| format!("{}9000", hex(&bytes(offset, count)));
     vec![
         b0(0, 0, &plain(0, 2_048)),
         reads(0x0000, 0, 65_536, 2_044),
@@ -385,35 +394,29 @@ fn to_the_largest_room() -> Vec<Line> {
     ]
 }
 
-/// A file that 15 bits do not reach the end of, nor 16; in a room just as large, then in the largest.
-fn a_large_file() -> Vec<Line> {
-    let plain = |offset, count| format!("{}9000", hex(&bytes(offset, count)));
-    let mut lines = a_card(LARGE);
+/// The largest file, read where an offset needs one bit more than the one before or one byte, at its
+/// end, and in between; and written there anew.
+fn the_largest_file() -> Vec<Line> {
+    let last = LARGEST_ROOM - 1;
+    let border = |border| [border - 1, border, border + 1].map(|at| reads(0x0000, at, 6, 4));
+    let mut lines = written_to_its_end();
+    lines.extend([0x100, 0x8000, 0x1_0000].map(border).concat());
+    lines.extend(parts(16_384).map(|(at, _)| reads(0x0000, at, 65_536, PORTION)));
     lines.extend([
-        select(3),
-        reads(FULL_ID, LARGE - 1, 256, 1),
-        update(0x0000, make::number(LARGE, 3), &[0], "6a84"),
-        update(0x0000, make::number(LARGE, 3), &[], "9000"),
-        refused(&rooms(LARGEST_BODY + 1), 10),
-        moved(&rooms(LARGEST_BODY), 0),
-        total("7f780581030200009000"),
-        b0(0x7FFF, 4, &plain(0x7FFF, 4)),
-    ]);
-    // Where an offset needs one bit more than the one before, or one byte.
-    lines.extend(
-        [0x7FFF, 0x8000, 0x8001, 0xFFFE, 0xFFFF, 0x1_0000, 0x1_0001]
-            .map(|at| reads(0x0000, at, 6, 4)),
-    );
-    lines.extend([
-        reads(0x0000, 0x1_0000, 65_536, 2_044),
-        reads(0x0000, LARGE - 1, 65_536, 1),
-        fails(0x0000, LARGE, 65_536, "6b00"),
-        update(0x0000, make::number(LARGE + 1, 3), &[], "6a80"),
-        update(0x0000, make::number(0xFFFF, 2), &bytes(0xFFFF, 2), "9000"),
-        update(0x0000, make::number(LARGE, 3), &bytes(LARGE, 1_000), "9000"),
-        reads(0x0000, LARGE - 1, 65_536, 1_001),
+        b0(0, 0, &plain(0, 2_048)),
         b0(0x7FFF, 0, &plain(0x7FFF, 2_048)),
-        reads(0x0000, 0x7FFF, 65_536, 2_044),
+        reads(0x0000, 0x7FFF, 65_536, PORTION),
+        reads(0x0000, last, 65_536, 1),
+        fails(0x0000, last, 2, "6700"),
+        fails(0x0000, last + 1, 2, "6b00"),
+        update(0x0000, make::number(0xFFFF, 2), &[1, 2], "9000"),
+        run(&b1(0x0000, 0xFFFF, 3, 4), "530201029000"),
+        update(0x0000, make::number(last, 3), &[1, 2], "6a84"),
+        update(0x0000, make::number(last, 3), &[3], "9000"),
+        run(&b1(0x0000, last, 3, 4), "5301039000"),
+        run(&Apdu::new(0x00, 0x44, 0x00, 0x00), "9000"),
+        run(&b1(0x0000, last, 3, 256), "5301039000"),
+        update(0x0000, make::number(last, 3), &[4], "6982"),
     ]);
     lines
 }

@@ -82,7 +82,7 @@ fn choose(random: &mut Random, view: &View) -> Name {
         3 if large => [4, 10, 40, 24, 2, 2, 2, 4, 8],
         0 => [24, 8, 5, 1, 1, 2, 2, 2, 6],
         1 | 2 => [6, 2, 2, 1, 1, 16, 14, 18, 8],
-        _ if open => [5, 12, 24, 24, 8, 2, 2, 2, 8],
+        _ if open => [5, 12, 24, 24, 10, 2, 2, 2, 8],
         _ => [18, 8, 16, 16, 2, 8, 8, 8, 8],
     };
     let names: Vec<(usize, Name)> = weights
@@ -201,10 +201,10 @@ impl<'a> Maker<'a> {
     /// four, the first of them perhaps not zero.
     fn offset_bytes(&mut self, offset: usize) -> Vec<u8> {
         let fewest = make::fewest_bytes(offset).min(3);
-        match self.random.below(40) {
+        match self.random.below(30) {
             0 => vec![],
             1 => make::number(offset | self.random.below(2) << 24, 4),
-            2..=11 => make::number(offset, self.random.between(fewest, 3)),
+            2..=8 => make::number(offset, self.random.between(fewest, 3)),
             _ => make::number(offset, fewest),
         }
     }
@@ -333,21 +333,21 @@ impl<'a> Maker<'a> {
     /// An offset into so many bytes: at their end, so far before it that the length of the reply
     /// changes its form, or where a number needs a bit more.
     fn offset_of_b1(&mut self, size: usize) -> usize {
-        match self.random.below(14) {
+        match self.random.below(16) {
             0 => self.random.near(size),
             1 => size.saturating_sub(1),
             2 => size.saturating_sub(self.random.near(0x80)),
             3 => size.saturating_sub(self.random.near(0x100)),
-            4 => size.saturating_sub(self.random.between(0x80, 0xFF)),
-            5 => size.saturating_sub(self.random.between(0x100, 2_045)),
-            6 => self.random.near(size.saturating_sub(2_045)),
-            7 => {
+            4 | 5 => size.saturating_sub(self.random.between(0x80, 0xFF)),
+            6 | 7 => size.saturating_sub(self.random.between(0x100, 2_045)),
+            8 => self.random.near(size.saturating_sub(2_045)),
+            9 => {
                 let border = self
                     .random
                     .pick(&[0x100, 0x8000, 0x1_0000, 0x2_0000, 0xFF_FFFE]);
                 self.random.near(border)
             }
-            8..=10 if size > 0 => self.random.below(size),
+            10..=12 if size > 0 => self.random.below(size),
             _ => 0,
         }
     }

@@ -499,7 +499,7 @@ fn ends_as_it_says(lines: Vec<Line>) {
 #[test]
 fn the_scenes_end_as_they_say() {
     ends_as_it_says(binary_scene::lines());
-    ends_as_it_says(binary_scene::the_largest_file());
+    ends_as_it_says(binary_scene::all_of_the_largest());
 }
 
 /// The scene of the sample shows each wrong machine but those that only large cards show.
