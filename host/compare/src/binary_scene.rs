@@ -42,51 +42,6 @@ pub fn lines() -> Vec<Line> {
     .concat()
 }
 
-/// The most bytes that one command writes at an offset of three bytes: 1,024 with both heads.
-const PIECE: usize = 1_015;
-/// The most bytes that one reply of B1 has of a file.
-const PORTION: usize = 2_044;
-
-/// Where the parts of the largest room begin that are written or read so many bytes at a time, and
-/// how many bytes each has.
-fn parts(of: usize) -> impl Iterator<Item = (usize, usize)> {
-    let part = move |at| (at, of.min(LARGEST_ROOM - at));
-    (0..LARGEST_ROOM).step_by(of).map(part)
-}
-
-/// A card with a file of the largest room, written to its end by UPDATE BINARY.
-fn written_to_its_end() -> Vec<Line> {
-    let at = |offset| make::number(offset, make::fewest_bytes(offset));
-    let mut lines = a_card(0);
-    lines.extend([
-        refused(&rooms(LARGEST_BODY + 1), 10),
-        moved(&rooms(LARGEST_BODY), 0),
-        select(3),
-    ]);
-    lines.extend(
-        parts(PIECE).map(|(offset, n)| update(FULL_ID, at(offset), &bytes(offset, n), "9000")),
-    );
-    lines.extend([
-        update(FULL_ID, at(LARGEST_ROOM), &[], "9000"),
-        update(FULL_ID, at(LARGEST_ROOM), &[0], "6a84"),
-        update(FULL_ID, at(LARGEST_ROOM + 1), &[], "6a80"),
-        total("7f780581030200009000"),
-    ]);
-    lines
-}
-
-/// That file, read back as a whole by B1, and by B0 as far as that reaches. This is too long for a
-/// sample.
-pub fn all_of_the_largest() -> Vec<Line> {
-    let mut lines = written_to_its_end();
-    lines.extend(parts(PORTION).map(|(offset, n)| reads(0x0000, offset, 65_536, n)));
-    lines.push(fails(0x0000, LARGEST_ROOM, 65_536, "6b00"));
-    let plain = |offset| b0(offset, 0, &plain(offset, 2_048));
-    lines.extend((0..0x8000).step_by(2_048).map(plain));
-    lines.push(plain(0x7FFF));
-    lines
-}
-
 /// The byte of a file at this place. Places that differ in one byte of their number differ here.
 fn byte(at: usize) -> u8 {
     (at + 7 * (at >> 8) + 11 * (at >> 16)) as u8
@@ -392,6 +347,51 @@ fn to_the_largest_room() -> Vec<Line> {
         update(0x0000, make::number(SIZE, 3), &bytes(SIZE, 3), "9000"),
         reads(0x0000, SIZE, 256, 3),
     ]
+}
+
+/// The most bytes that one command writes at an offset of three bytes: 1,024 with both heads.
+const PIECE: usize = 1_015;
+/// The most bytes that one reply of B1 has of a file.
+const PORTION: usize = 2_044;
+
+/// Where the parts of the largest room begin that are written or read so many bytes at a time, and
+/// how many bytes each has.
+fn parts(of: usize) -> impl Iterator<Item = (usize, usize)> {
+    let part = move |at| (at, of.min(LARGEST_ROOM - at));
+    (0..LARGEST_ROOM).step_by(of).map(part)
+}
+
+/// A card with a file of the largest room, written to its end by UPDATE BINARY.
+fn written_to_its_end() -> Vec<Line> {
+    let at = |offset| make::number(offset, make::fewest_bytes(offset));
+    let mut lines = a_card(0);
+    lines.extend([
+        refused(&rooms(LARGEST_BODY + 1), 10),
+        moved(&rooms(LARGEST_BODY), 0),
+        select(3),
+    ]);
+    lines.extend(
+        parts(PIECE).map(|(offset, n)| update(FULL_ID, at(offset), &bytes(offset, n), "9000")),
+    );
+    lines.extend([
+        update(FULL_ID, at(LARGEST_ROOM), &[], "9000"),
+        update(FULL_ID, at(LARGEST_ROOM), &[0], "6a84"),
+        update(FULL_ID, at(LARGEST_ROOM + 1), &[], "6a80"),
+        total("7f780581030200009000"),
+    ]);
+    lines
+}
+
+/// That file, read back as a whole by B1, and by B0 as far as that reaches. This is too long for a
+/// sample.
+pub fn all_of_the_largest() -> Vec<Line> {
+    let mut lines = written_to_its_end();
+    lines.extend(parts(PORTION).map(|(offset, n)| reads(0x0000, offset, 65_536, n)));
+    lines.push(fails(0x0000, LARGEST_ROOM, 65_536, "6b00"));
+    let plain = |offset| b0(offset, 0, &plain(offset, 2_048));
+    lines.extend((0..0x8000).step_by(2_048).map(plain));
+    lines.push(plain(0x7FFF));
+    lines
 }
 
 /// The largest file, read where an offset needs one bit more than the one before or one byte, at its

@@ -139,44 +139,47 @@ impl BinaryTally {
 
     /// What is counted, how often it occurred and how often it should.
     pub fn wanted(&self, each: u64) -> Vec<(String, u64, u64)> {
+        let mut wanted = self.wanted_reads();
+        for bytes in 0..=MOST_BYTES {
+            let status = if (1..=3).contains(&bytes) {
+                0x9000
+            } else {
+                0x6A80
+            };
+            let what = format!("UPDATE BINARY, offset of {bytes} bytes: {status:04X}");
+            wanted.push((what, self.updated(bytes, status)));
+        }
+        let [offset, number] = self.windows;
+        wanted.push(("search with an offset of three bytes".to_string(), offset));
+        wanted.push(("search with a number of three bytes".to_string(), number));
+        let [largest, above] = self.moves;
+        wanted.push(("moves to the largest room".to_string(), largest));
+        wanted.push(("moves to one byte more".to_string(), above));
+        let with_each = |(what, count)| (what, count, each);
+        wanted.into_iter().map(with_each).collect()
+    }
+
+    /// What is counted of B1, and how often it occurred.
+    fn wanted_reads(&self) -> Vec<(String, u64)> {
         let mut wanted = Vec::new();
-        let mut want = |what: String, count: u64| wanted.push((what, count, each));
         for (at, form) in FORMS.iter().enumerate() {
-            for (which, limit) in LIMITS
-                .iter()
-                .enumerate()
-                .filter(|(which, _)| possible(at, *which))
-            {
-                let count = self.reads_where(|_, form, limit| (form, limit) == (at, which));
-                want(format!("B1, length of {form}, limited by {limit}"), count);
+            for (which, limit) in LIMITS.iter().enumerate() {
+                if possible(at, which) {
+                    let count = self.reads_where(|_, form, limit| (form, limit) == (at, which));
+                    wanted.push((format!("B1, length of {form}, limited by {limit}"), count));
+                }
             }
         }
         for bytes in 1..=3 {
             let count = self.reads_where(|of_offset, _, _| of_offset == bytes);
-            want(format!("B1, offset of {bytes} bytes"), count);
-            want(
-                format!("UPDATE BINARY, offset of {bytes} bytes: 9000"),
-                self.updated(bytes, 0x9000),
-            );
+            wanted.push((format!("B1, offset of {bytes} bytes"), count));
         }
         for ((name, _), count) in REACHES.iter().zip(self.reaches) {
-            want(format!("B1, offset {name}"), count);
-        }
-        for bytes in [0, MOST_BYTES] {
-            want(
-                format!("UPDATE BINARY, offset of {bytes} bytes: 6A80"),
-                self.updated(bytes, 0x6A80),
-            );
+            wanted.push((format!("B1, offset {name}"), count));
         }
         let [small, behind] = self.small;
-        want("B1, Ne under 3: 6700".to_string(), small);
-        want("B1, Ne under 3: 6B00".to_string(), behind);
-        let [offset, number] = self.windows;
-        want("search with an offset of three bytes".to_string(), offset);
-        want("search with a number of three bytes".to_string(), number);
-        let [largest, above] = self.moves;
-        want("moves to the largest room".to_string(), largest);
-        want("moves to one byte more".to_string(), above);
+        wanted.push(("B1, Ne under 3: 6700".to_string(), small));
+        wanted.push(("B1, Ne under 3: 6B00".to_string(), behind));
         wanted
     }
 }

@@ -6,7 +6,9 @@ use compare::hex::hex;
 use compare::line::Line;
 use compare::make::{self, Apdu, LARGEST_ROOM};
 use compare::scene;
-use compare::sides::{compare_machines, compare_without_scene, Command, Machine, REFERENCE};
+use compare::sides::{
+    compare_machines, compare_without_scene, Command, Machine, MoveCard, REFERENCE,
+};
 use compare::step::{State, Step};
 use compare::view::{self, View};
 
@@ -463,6 +465,41 @@ fn a_difference_is_seen_without_the_scene() {
     }
 }
 
+/// The body of a biometrics file in the largest room.
+const LARGEST_BODY: usize = 5 + LARGEST_ROOM;
+
+/// The reference's move, with this body of a biometrics file taken for another.
+fn move_with(old: &[u8], list: &[u8], target: &mut [u8], body: usize, other: usize) -> u64 {
+    let mut list = list.to_vec();
+    for row in list.chunks_exact_mut(make::SECTION_HEADER) {
+        if row[5] == 0x04 && row[..4] == (body as u32).to_le_bytes() {
+            row[..4].copy_from_slice(&(other as u32).to_le_bytes());
+        }
+    }
+    reference::move_card(old, &list, target)
+}
+
+/// The largest room refused, and a room of one byte more accepted.
+const WRONG_MOVES: [MoveCard; 2] = [
+    |old, list, target| move_with(old, list, target, LARGEST_BODY, LARGEST_BODY + 1),
+    |old, list, target| move_with(old, list, target, LARGEST_BODY + 1, LARGEST_BODY),
+];
+
+#[test]
+fn a_difference_of_a_move_is_seen() {
+    for move_card in WRONG_MOVES {
+        let wrong = Machine {
+            move_card,
+            ..REFERENCE
+        };
+        for compare in [compare_machines, compare_without_scene] {
+            let found = compare(SEED, 20_000, &wrong, &REFERENCE).err();
+            let found = found.expect("a difference");
+            assert!(matches!(found.step, Step::Move { .. }));
+        }
+    }
+}
+
 /// What the reference does with a line, in the words of the scene.
 fn said(state: &mut State, step: &Step) -> String {
     match step {
@@ -502,7 +539,8 @@ fn the_scenes_end_as_they_say() {
     ends_as_it_says(binary_scene::all_of_the_largest());
 }
 
-/// The scene of the sample shows each wrong machine but those that only large cards show.
+/// The scene of the sample shows each wrong machine but one: it has no card with a room that is too
+/// large, which would take a quarter of the sample.
 #[test]
 fn the_scene_alone_shows_each() {
     let unseen: Vec<&str> = all_wrong()
