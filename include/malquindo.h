@@ -103,6 +103,10 @@ uint64_t malquindo_open(const uint8_t *rights, size_t rights_len, uint8_t *sessi
  * Image and session change only where the status is 0x9000. With any other status, and on a refusal, they stay as they came.
  * The command is only read.
  *
+ * A biometrics file has up to 131,072 bytes. READ BINARY with INS B0 says an offset of 15 bits, up to 32,767. INS B1 reaches all
+ * of it: its data is the object 54 with an offset of 1 to 3 bytes, as in UPDATE BINARY, and its reply is the object 53 with as
+ * many bytes of the file as fit, 2,044 at the most. Read on at the offset behind them, until 0x6B00 says that the file ends.
+ *
  * Refusals, tested in this order: 1, 2, 4. A refused command leaves the response as it came. */
 uint64_t malquindo_command(uint8_t *image, size_t image_len, uint8_t *session, size_t session_len,
                            const uint8_t *command, size_t command_len, uint8_t *response, size_t response_len);
@@ -120,7 +124,7 @@ uint64_t malquindo_command(uint8_t *image, size_t image_len, uint8_t *session, s
  *
  * Refusals, tested in this order: 2, 10, 11, 12, 13. A refused move leaves the target as it came. Refusal 10 has these
  * reasons: list_len is no multiple of 6; a kind is unknown, or not above the one before; a body is shorter than 2 bytes or,
- * of a biometrics file, shorter than 5 or longer than 32,773; an application is not whole; the image would be longer than
+ * of a biometrics file, shorter than 5 or longer than 131,077; an application is not whole; the image would be longer than
  * MALQUINDO_IMAGE_LEN. */
 uint64_t malquindo_move(const uint8_t *old, size_t old_len, const uint8_t *list, size_t list_len,
                         uint8_t *target, size_t target_len);

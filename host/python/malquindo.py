@@ -52,6 +52,20 @@ An index of EntryRecords, which reads a record without a walk over those before 
     >>> index
     Index(0x0101, [2, 10, 18])
 
+A biometrics file has up to 131,072 bytes. READ BINARY with INS B0 reads from offsets up to 32,767, with INS B1 from any. The offset is then
+an object 54 of one to three bytes, and the reply an object 53:
+
+    >>> image = malquindo.move_card(b'', [(0x031A, 2), (0x0401, 5 + 131072)])
+    >>> session = malquindo.open(b'\\xFF' * malquindo.RIGHTS_LEN)
+    >>> print(send('00A4040C07A0000002472003'))     # SELECT the biometrics application
+    9000
+    >>> print(send('00D702010A 5401 00 5305 6972697321'))      # UPDATE BINARY of Biometrics 1, at offset 0
+    9000
+    >>> print(send('00B1020105 5403 000001 00'))    # READ BINARY B1, at offset 1
+    530472697321 9000
+    >>> print(send('00B1020105 5403 010000 00'))    # nothing is written there
+    6B00
+
 Rights from the extensions of three certificates, to open with. Where a certificate is refused there are none, and that is an exception:
 
     >>> travel = bytes.fromhex('730D 0608 6781080101090103 53010F')     # travel, all its rights

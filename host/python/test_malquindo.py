@@ -84,6 +84,55 @@ class Worked(Case):
         self.assertEqual(malquindo.command(self.image, malquindo.open(rights), SELECT), (b'', 0x6982))
 
 
+class Large(Case):
+    """A file that READ BINARY reaches the end of by INS B1 alone."""
+    ROOM = 131072
+
+    def setUp(self):
+        self.image = malquindo.move_card(b'', [(0x031A, 2), (0x0401, 5 + self.ROOM)])
+        self.session = malquindo.open(ALL_RIGHTS)
+        self.assertEqual(self.send('00A4040C07A0000002472003'), (b'', 0x9000))
+
+    def send(self, digits, data=b''):
+        return malquindo.command(self.image, self.session, bytes.fromhex(digits) + data)
+
+    def update(self, offset, piece):
+        """UPDATE BINARY of Biometrics 1, of at least 256 bytes, the offset in three bytes."""
+        data = b'\x54\x03' + offset.to_bytes(3, 'big') + b'\x53\x82' + len(piece).to_bytes(2, 'big') + piece
+        return self.send('00D7020100', len(data).to_bytes(2, 'big') + data)
+
+    def read(self, offset):
+        """READ BINARY B1 of Biometrics 1, of as many bytes as a reply has room for."""
+        return self.send('00B1020100 0005 5403', offset.to_bytes(3, 'big') + bytes(2))
+
+    def test_written_to_its_end_and_read_back(self):
+        content = random.Random(3).randbytes(self.ROOM)
+        for offset in range(0, self.ROOM, 1000):
+            piece = content[offset:offset + 1000].ljust(256, b'\0')
+            wanted = 0x9000 if offset + len(piece) <= self.ROOM else 0x6A84
+            self.assertEqual(self.update(offset, piece), (b'', wanted))
+        self.assertEqual(self.update(self.ROOM - 256, content[-256:]), (b'', 0x9000))
+        got = b''
+        while len(got) < self.ROOM:
+            data, status = self.read(len(got))
+            self.assertEqual((status, data[:2]), (0x9000, b'\x53\x82'))
+            self.assertEqual(len(data) - 4, int.from_bytes(data[2:4], 'big'))
+            got += data[4:]
+        self.assertEqual(got, content)
+        self.assertEqual(self.read(self.ROOM), (b'', 0x6B00))
+        self.assertEqual(self.send('00B07FFF000000'), (content[0x7FFF:0x7FFF + 2048], 0x9000))
+
+    def test_the_total_has_three_bytes(self):
+        self.assertEqual(self.read(0), (b'', 0x6B00))
+        self.assertEqual(str(self.send('805E0101 04 51020201 00')), '7F78058103020000 9000')
+
+    def test_no_larger_room(self):
+        self.refused(Refusal.BAD_LIST, malquindo.move_card, self.image, [(0x031A, 2), (0x0401, 6 + self.ROOM)])
+        small = malquindo.move_card(self.image, [(0x031A, 2), (0x0401, 5)])
+        self.assertEqual(len(small), 6 + 2 + 6 + 5)
+        self.assertEqual(malquindo.move_card(small, [(0x031A, 2), (0x0401, 5 + self.ROOM)]), self.image)
+
+
 class Empty(Case):
     def test_no_bytes_are_a_card(self):
         self.assertEqual(malquindo.command(bytearray(), self.session, SELECT), (b'', 0x6A82))

@@ -2,7 +2,7 @@
 //! with an index; stamps; runs of extensions.
 
 use compare::extension::{self, Extension, Runs};
-use compare::make::{self, Apdu, LONGEST_IMAGE, RULES};
+use compare::make::{self, Apdu, LARGEST_ROOM, LONGEST_IMAGE, RULES};
 use compare::random::Random;
 use compare::stamp::{self, Draft};
 use compare::view;
@@ -36,6 +36,12 @@ impl Case {
             status: 0x9000,
             changes: false,
         }
+    }
+
+    /// With Biometrics 1 as the current file.
+    fn current(mut self) -> Self {
+        self.session[21..24].copy_from_slice(&[1, 0x01, 0x02]);
+        self
     }
 
     fn changes(mut self) -> Self {
@@ -79,11 +85,12 @@ fn records_of_a(count: usize) -> Vec<Vec<u8>> {
     vec![vec![b'a'; LONGEST_RECORD]; count]
 }
 
-fn biometrics_card() -> Vec<u8> {
-    let room = Random::new(4_096).bytes(4_096);
+/// A card with one biometrics file, of which so many bytes are written.
+fn biometrics_card(written: usize, room: usize) -> Vec<u8> {
+    let bytes = Random::new(4_096).bytes(room);
     [
         make::section(0x031A, &[0; 40]),
-        make::section(0x0401, &make::biometrics(0, room.len(), &room)),
+        make::section(0x0401, &make::biometrics(0, written, &bytes)),
     ]
     .concat()
 }
@@ -126,9 +133,29 @@ pub fn read_binary() -> Case {
     let command = Apdu::new(0x00, 0xB0, 0x00, 0x00).le(0).extended(true);
     let held = "Biometrics 1 current, 4,096 bytes written";
     let name = "READ BINARY of 2,048 bytes";
-    let mut case = Case::new(name, held, &biometrics_card(), BIOMETRICS, command);
-    case.session[21..24].copy_from_slice(&[1, 0x01, 0x02]);
-    case
+    let card = biometrics_card(4_096, 4_096);
+    Case::new(name, held, &card, BIOMETRICS, command).current()
+}
+
+/// Where the largest file is read: B0 reaches it, too.
+const OFFSET: u16 = 30_000;
+
+/// The longest replies of B0 and of B1, both of the same file from the same place on.
+pub fn read_the_largest() -> [Case; 2] {
+    let held = "Biometrics 1 current, 131,072 bytes written";
+    let card = biometrics_card(LARGEST_ROOM, LARGEST_ROOM);
+    let [high, low] = OFFSET.to_be_bytes();
+    let offset = make::object(&[0x54], &[high, low]);
+    let b0 = Apdu::new(0x00, 0xB0, high, low);
+    let b1 = Apdu::new(0x00, 0xB1, 0x00, 0x00).data(offset);
+    [
+        ("READ BINARY B0 of 2,048 bytes", b0),
+        ("READ BINARY B1 of 2,044 bytes", b1),
+    ]
+    .map(|(name, command)| {
+        let command = command.le(0).extended(true);
+        Case::new(name, held, &card, BIOMETRICS, command).current()
+    })
 }
 
 pub fn update_binary() -> Case {
@@ -137,7 +164,8 @@ pub fn update_binary() -> Case {
     let command = Apdu::new(0x00, 0xD7, 0x02, 0x01).data(data.concat());
     let held = "Biometrics 1, Deactivated, room 4,096";
     let name = "UPDATE BINARY of 1,000 bytes";
-    Case::new(name, held, &biometrics_card(), BIOMETRICS, command).changes()
+    let card = biometrics_card(4_096, 4_096);
+    Case::new(name, held, &card, BIOMETRICS, command).changes()
 }
 
 pub fn append_record() -> Case {
@@ -260,17 +288,35 @@ fn full_card(free: usize) -> Vec<u8> {
     image
 }
 
-/// The longest image there is, and a command that ends at step 1.
-pub fn validation() -> Case {
-    let mut case = Case::new(
-        "validation (a command of no bytes)",
-        "262,144 bytes: 1,334 records of 100 bytes in six files, 64 biometrics files",
-        &full_card(0),
-        0,
-        select_travel(),
-    );
+/// A command that ends at step 1: the image is all that is checked.
+fn validation_of(held: &str, image: &[u8]) -> Case {
+    let name = "validation (a command of no bytes)";
+    let mut case = Case::new(name, held, image, 0, select_travel());
     case.command.clear();
     case.status(0x6700)
+}
+
+/// The longest image there is.
+pub fn validation() -> Case {
+    validation_of(
+        "262,144 bytes: 1,334 records of 100 bytes in six files, 64 biometrics files",
+        &full_card(0),
+    )
+}
+
+/// One biometrics file in a small room, and in the largest, full and empty: its bytes are not looked
+/// at, so that the times are the same.
+pub fn validation_by_room() -> [Case; 3] {
+    [
+        ("one biometrics file, room 16, full", 16, 16),
+        (
+            "one biometrics file, room 131,072, full",
+            LARGEST_ROOM,
+            LARGEST_ROOM,
+        ),
+        ("one biometrics file, room 131,072, empty", 0, LARGEST_ROOM),
+    ]
+    .map(|(held, written, room)| validation_of(held, &biometrics_card(written, room)))
 }
 
 /// A card to move, and the rooms that it is moved to.

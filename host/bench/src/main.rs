@@ -48,6 +48,9 @@ fn times() {
         print_row(&case);
     }
     print_row(&cases::read_binary());
+    for case in cases::read_the_largest() {
+        print_row(&case);
+    }
     print_row(&cases::update_binary());
     print_row(&cases::append_record());
     print_row(&cases::read_one(1, MOST_RECORDS));
@@ -62,6 +65,9 @@ fn times() {
     let other_times = print_named("SEARCH RECORD, the reference's worst string", other);
     print_row(&cases::fmm());
     print_row(&cases::validation());
+    for case in cases::validation_by_room() {
+        print_row(&case);
+    }
     println!("\n| search | proved (ns per byte searched) | reference (ns per byte searched) |");
     println!("|---|---|---|");
     print_per_byte("3 bytes that occur nowhere", three_times);
@@ -231,6 +237,7 @@ fn rights_times() {
 }
 
 fn stack_use() {
+    let [b0, b1] = cases::read_the_largest();
     stack_head("malquindo_command");
     for case in [
         cases::search_long(391),
@@ -241,6 +248,8 @@ fn stack_use() {
         cases::fmm(),
         cases::update_binary(),
         cases::read_binary(),
+        b0,
+        b1,
         cases::append_record(),
         cases::validation(),
     ] {

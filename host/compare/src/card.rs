@@ -26,15 +26,17 @@ enum Fill {
     Reply,
 }
 
+/// One card in so many has a large biometrics file, or two. They are rare, since each call
+/// compares all bytes of the image.
+const LARGE: usize = 20;
+
 /// A well-formed image with some of the applications.
 pub fn image(random: &mut Random, size: Size) -> Vec<u8> {
-    let present = if random.coin() { 7 } else { random.below(8) };
-    let mut image = Vec::new();
-    for rule in &RULES {
-        if present & (1 << (rule.application - 1)) != 0 {
-            image.extend(make::section(rule.kind, &record_body(random, size, rule)));
-        }
+    if size == Size::Any && random.one_in(LARGE) {
+        return large(random);
     }
+    let present = if random.coin() { 7 } else { random.below(8) };
+    let mut image = record_files(random, size, present);
     if present & 4 != 0 {
         for n in biometrics_numbers(random) {
             let body = biometrics_body(random, size);
@@ -45,6 +47,15 @@ pub fn image(random: &mut Random, size: Size) -> Vec<u8> {
         grow_to_the_longest(random, &mut image);
     }
     image
+}
+
+/// The record files of these applications: b1 travel, b2 visa, b3 biometrics.
+fn record_files(random: &mut Random, size: Size, present: usize) -> Vec<u8> {
+    RULES
+        .iter()
+        .filter(|rule| present & (1 << (rule.application - 1)) != 0)
+        .flat_map(|rule| make::section(rule.kind, &record_body(random, size, rule)))
+        .collect()
 }
 
 fn record_body(random: &mut Random, size: Size, rule: &Rule) -> Vec<u8> {
@@ -133,8 +144,7 @@ fn biometrics_body(random: &mut Random, size: Size) -> Vec<u8> {
     let room = match (size, random.below(12)) {
         (_, 0) => random.below(3),
         (_, 1) => random.near(256),
-        (Size::Any, 2..=4) => random.near(2_048) + random.below(300),
-        (Size::Any, 5) if random.one_in(10) => make::LARGEST_ROOM - random.below(2),
+        (Size::Any, 2..=5) => random.near(2_048) + random.below(300),
         _ => random.between(1, 80),
     };
     let written = match random.below(4) {
@@ -143,9 +153,61 @@ fn biometrics_body(random: &mut Random, size: Size) -> Vec<u8> {
         2 => random.near(room).min(room),
         _ => random.between(0, room),
     };
+    biometrics(random, written, room)
+}
+
+/// A biometrics body of random bytes, Deactivated mostly.
+fn biometrics(random: &mut Random, written: usize, room: usize) -> Vec<u8> {
     let state = u8::from(random.one_in(5));
     let bytes = random.bytes(room);
     make::biometrics(state, written, &bytes)
+}
+
+/// A card with a biometrics file of more than 32,767 bytes, and at times a second one as far as
+/// the image has room for it. The other files are small, since a large one costs enough.
+fn large(random: &mut Random) -> Vec<u8> {
+    let present = 4 | random.below(4);
+    let mut image = record_files(random, Size::Small, present);
+    let mut numbers = biometrics_numbers(random);
+    if numbers.is_empty() {
+        numbers.push(1);
+    }
+    numbers.truncate(3);
+    let two = random.one_in(12);
+    for (at, n) in numbers.iter().enumerate() {
+        // What the image has room for, a small file behind it and the heads aside.
+        let left = make::LONGEST_IMAGE - image.len() - 1_000;
+        let body = match at {
+            0 => large_body(random, make::LARGEST_ROOM),
+            1 if two => large_body(random, left.min(make::LARGEST_ROOM)),
+            _ => biometrics_body(random, Size::Small),
+        };
+        image.extend(make::section(make::BIOMETRICS_KIND + n, &body));
+    }
+    image
+}
+
+/// Numbers that need a bit more than the one below: those of 15 and of 16 bits.
+const BORDERS: [usize; 2] = [0x8000, 0x1_0000];
+
+/// A large body: its room and what is written at the most, at a border, or between.
+fn large_body(random: &mut Random, most: usize) -> Vec<u8> {
+    let room = match random.below(8) {
+        0..=3 => most - random.pick(&[0, 0, 0, 1, 2]),
+        4 => random.near(BORDERS[0]),
+        5 => random.near(BORDERS[1]),
+        _ => random.between(BORDERS[0], most),
+    };
+    let written = match random.below(10) {
+        0..=2 => room,
+        3 => room - random.below(2_100),
+        4 => random.near(BORDERS[0]),
+        5 => random.near(BORDERS[1]),
+        6 => BORDERS[1] - random.below(2_100),
+        7 => random.below(300),
+        _ => random.between(BORDERS[0] - 1, room),
+    };
+    biometrics(random, written.min(room), room)
 }
 
 /// Makes the last section longer, so that the image is as long as an image may be, almost, or

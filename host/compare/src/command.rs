@@ -1,4 +1,4 @@
-//! Made-up commands: each of the eight well formed, with parameters that mean something on the
+//! Made-up commands: each of the nine well formed, with parameters that mean something on the
 //! card at hand; then, now and then, with something wrong.
 
 use crate::card::Size;
@@ -12,6 +12,8 @@ use crate::view::{Content, File, View};
 pub enum Name {
     Select,
     ReadBinary,
+    /// READ BINARY of the odd instruction, with the offset in an object.
+    ReadBinaryB1,
     UpdateBinary,
     Activate,
     AppendRecord,
@@ -23,9 +25,10 @@ pub enum Name {
 use Name::*;
 
 /// Name, CLA and INS of each command.
-pub const NAMES: [(Name, &str, u8, u8); 8] = [
+pub const NAMES: [(Name, &str, u8, u8); 9] = [
     (Select, "SELECT", 0x00, 0xA4),
-    (ReadBinary, "READ BINARY", 0x00, 0xB0),
+    (ReadBinary, "READ BINARY B0", 0x00, 0xB0),
+    (ReadBinaryB1, "READ BINARY B1", 0x00, 0xB1),
     (UpdateBinary, "UPDATE BINARY", 0x00, 0xD7),
     (Activate, "ACTIVATE", 0x00, 0x44),
     (AppendRecord, "APPEND RECORD", 0x00, 0xE2),
@@ -46,6 +49,7 @@ pub fn command(random: &mut Random, view: &View, image: &[u8], size: Size) -> Ve
     let mut apdu = match name {
         Select => maker.select(),
         ReadBinary => maker.read_binary(),
+        ReadBinaryB1 => maker.read_binary_b1(),
         UpdateBinary => maker.update_binary(),
         Activate => Apdu::new(0x00, 0x44, 0, 0),
         AppendRecord => maker.append_record(),
@@ -71,11 +75,15 @@ pub fn command(random: &mut Random, view: &View, image: &[u8], size: Size) -> Ve
 /// A command, such that those come often which can do something where the session is.
 fn choose(random: &mut Random, view: &View) -> Name {
     let open = view.current_file().is_some_and(File::is_open);
+    let large = view.files.iter().any(File::is_large);
     let weights = match view.application {
-        0 => [24, 8, 1, 1, 2, 2, 2, 6],
-        1 | 2 => [6, 2, 1, 1, 16, 14, 18, 8],
-        _ if open => [5, 14, 24, 8, 2, 2, 2, 8],
-        _ => [18, 8, 16, 2, 8, 8, 8, 8],
+        // A large file is there to be read and written.
+        0 if large => [60, 4, 4, 1, 1, 2, 2, 2, 6],
+        3 if large => [4, 10, 40, 24, 2, 2, 2, 4, 8],
+        0 => [24, 8, 5, 1, 1, 2, 2, 2, 6],
+        1 | 2 => [6, 2, 2, 1, 1, 16, 14, 18, 8],
+        _ if open => [5, 12, 24, 24, 10, 2, 2, 2, 8],
+        _ => [18, 8, 16, 16, 2, 8, 8, 8, 8],
     };
     let names: Vec<(usize, Name)> = weights
         .into_iter()
@@ -119,6 +127,16 @@ struct Target<'a> {
     file: Option<&'a File>,
 }
 
+impl<'a> Target<'a> {
+    fn of(file: &'a File) -> Self {
+        Self {
+            id: file.id,
+            short_id: file.short_id,
+            file: Some(file),
+        }
+    }
+}
+
 struct Maker<'a> {
     random: &'a mut Random,
     view: &'a View,
@@ -138,11 +156,15 @@ impl<'a> Maker<'a> {
         if here.is_empty() || self.random.one_in(14) {
             return self.missing();
         }
-        let file = self.random.pick(&here);
-        Target {
-            id: file.id,
-            short_id: file.short_id,
-            file: Some(file),
+        Target::of(self.random.pick(&here))
+    }
+
+    /// The same, but mostly the file with the most room: there is most to read and to write.
+    fn roomy_target(&mut self, wanted: fn(&File) -> bool) -> Target<'a> {
+        let here = self.view.here().filter(|file| wanted(file));
+        match here.max_by_key(|file| file.room()) {
+            Some(file) if !self.random.one_in(3) => Target::of(file),
+            _ => self.target(wanted),
         }
     }
 
@@ -163,14 +185,42 @@ impl<'a> Maker<'a> {
         self.view.current == Some(target.id)
     }
 
-    /// One or two bytes, big-endian; one only where the number fits.
+    /// A number of a search's window, in one or two bytes; one only where the number fits. Now and
+    /// then it has three, as only an offset may.
     fn number(&mut self, number: usize) -> Vec<u8> {
-        let [high, low] = (number.min(0xFFFF) as u16).to_be_bytes();
-        if high == 0 && self.random.coin() {
-            vec![low]
-        } else {
-            vec![high, low]
+        let number = number.min(0xFFFF);
+        let fewest = make::fewest_bytes(number);
+        let bytes = match self.random.below(40) {
+            0 => 3,
+            _ => self.random.between(fewest, 2),
+        };
+        make::number(number, bytes)
+    }
+
+    /// An offset in one to three bytes, mostly in as few as it needs. Now and then it has none, or
+    /// four, the first of them perhaps not zero.
+    fn offset_bytes(&mut self, offset: usize) -> Vec<u8> {
+        let fewest = make::fewest_bytes(offset).min(3);
+        match self.random.below(30) {
+            0 => vec![],
+            1 => make::number(offset | self.random.below(2) << 24, 4),
+            2..=8 => make::number(offset, self.random.between(fewest, 3)),
+            _ => make::number(offset, fewest),
         }
+    }
+
+    /// Whether the current file is meant, and the file then meant.
+    fn current_or(&mut self, target: &Target<'a>) -> (bool, Option<&'a File>) {
+        let transparent = self
+            .view
+            .current_file()
+            .is_some_and(|file| !file.has_records());
+        let current = transparent && self.random.coin() || self.random.one_in(20);
+        let file = match current {
+            true => self.view.current_file(),
+            false => target.file,
+        };
+        (current, file)
     }
 
     fn select(&mut self) -> Apdu {
@@ -202,6 +252,9 @@ impl<'a> Maker<'a> {
     fn aid(&mut self) -> Vec<u8> {
         let mut present: Vec<u8> = [1, 2, 3, 3].to_vec();
         present.retain(|application| self.view.has(*application));
+        if self.view.files.iter().any(File::is_large) {
+            present.extend([3; 6]);
+        }
         let application = if present.is_empty() || self.random.one_in(9) {
             self.random.below(4) as u8
         } else {
@@ -257,30 +310,92 @@ impl<'a> Maker<'a> {
         }
     }
 
+    fn read_binary_b1(&mut self) -> Apdu {
+        let target = match self.random.below(8) {
+            0 => self.target(|_| true),
+            _ => self.roomy_target(|file| !file.has_records()),
+        };
+        let (current, file) = self.current_or(&target);
+        let size = file.map_or(0, File::size);
+        let offset = self.offset_of_b1(size);
+        let data = self.data_of_b1(offset);
+        let le = self.le_of_b1(size.saturating_sub(offset));
+        let extended = le > 0xFF || self.random.coin();
+        let [p1, p2] = if current { 0 } else { target.id }.to_be_bytes();
+        let apdu = Apdu::new(0x00, 0xB1, p1, p2).extended(extended);
+        match self.random.below(24) {
+            0 => apdu.le(le as u16),
+            1 => apdu.data(data),
+            _ => apdu.data(data).le(le as u16),
+        }
+    }
+
+    /// An offset into so many bytes: at their end, so far before it that the length of the reply
+    /// changes its form, or where a number needs a bit more.
+    fn offset_of_b1(&mut self, size: usize) -> usize {
+        match self.random.below(16) {
+            0 => self.random.near(size),
+            1 => size.saturating_sub(1),
+            2 => size.saturating_sub(self.random.near(0x80)),
+            3 => size.saturating_sub(self.random.near(0x100)),
+            4 | 5 => size.saturating_sub(self.random.between(0x80, 0xFF)),
+            6 | 7 => size.saturating_sub(self.random.between(0x100, 2_045)),
+            8 => self.random.near(size.saturating_sub(2_045)),
+            9 => {
+                let border = self
+                    .random
+                    .pick(&[0x100, 0x8000, 0x1_0000, 0x2_0000, 0xFF_FFFE]);
+                self.random.near(border)
+            }
+            10..=12 if size > 0 => self.random.below(size),
+            _ => 0,
+        }
+    }
+
+    /// The object of an offset, now and then with another behind it.
+    fn data_of_b1(&mut self, offset: usize) -> Vec<u8> {
+        let offset = self.offset_bytes(offset);
+        let mut data = Objects::new(self.random, 1).object(&[0x54], &offset);
+        if self.random.one_in(40) {
+            let tag = self.random.pick(&[0x53, 0x54]);
+            data.extend(make::object(&[tag], &[]));
+        }
+        data
+    }
+
+    /// How many bytes the reply may have; 0 stands for 256 or 65,536. Mostly it is where the form
+    /// of the length changes, or where the rest of the file just fits.
+    fn le_of_b1(&mut self, rest: usize) -> usize {
+        match self.random.below(12) {
+            // At the end of the file Ne does not count.
+            0..=3 if rest == 0 => self.random.between(1, 3),
+            0 => self.random.between(1, 4),
+            1 | 2 => self.random.between(127, 133),
+            3 | 4 => self.random.between(255, 262),
+            5 => self.random.between(2_047, 2_053),
+            6 => make::object(&[0x53], &vec![0; rest.min(2_048)]).len() + self.random.below(3) - 1,
+            7 => self.random.below(20),
+            8 => self.random.below(0x1_0000),
+            _ => 0,
+        }
+    }
+
     fn update_binary(&mut self) -> Apdu {
         let target = if self.random.one_in(8) {
             self.target(|file| !file.has_records())
         } else {
-            self.target(File::is_open)
+            self.roomy_target(File::is_open)
         };
-        let transparent = self
-            .view
-            .current_file()
-            .is_some_and(|file| !file.has_records());
-        let current = transparent && self.random.coin() || self.random.one_in(20);
-        let file = if current {
-            self.view.current_file()
-        } else {
-            target.file
-        };
+        let (current, file) = self.current_or(&target);
         let (written, room) = match file.map(|file| &file.content) {
             Some(Content::Biometrics { written, room, .. }) => (*written, *room),
             _ => (3, 9),
         };
-        let offset = match self.random.below(6) {
-            0 => self.random.near(written),
-            1 | 2 => written,
-            3 => self.random.between(0, written),
+        let offset = match self.random.below(8) {
+            0 | 1 => self.random.near(written),
+            2 | 3 => written,
+            4 => self.random.between(0, written),
+            5 => self.random.near(room),
             _ => 0,
         };
         let left = room.saturating_sub(offset);
@@ -300,11 +415,7 @@ impl<'a> Maker<'a> {
     }
 
     fn update_data(&mut self, offset: usize, bytes: &[u8]) -> Vec<u8> {
-        let offset = match self.random.below(60) {
-            0 => vec![],
-            1 => vec![0; 3],
-            _ => self.number(offset),
-        };
+        let offset = self.offset_bytes(offset);
         let tag = if self.random.one_in(40) { 0xC0 } else { 0x53 };
         let mut objects = Objects::new(self.random, 2);
         let mut parts = [
@@ -462,7 +573,10 @@ impl<'a> Maker<'a> {
         } else {
             self.random.below(8) as u8
         };
-        let target = self.target(|_| true);
+        let target = match self.random.below(4) {
+            0 => self.roomy_target(|_| true),
+            _ => self.target(|_| true),
+        };
         let extended = self.random.one_in(3);
         if self.view.current.is_some() && self.random.coin() || self.random.one_in(12) {
             return Apdu::new(0x80, 0x5E, 0x00, p2).le(0).extended(extended);

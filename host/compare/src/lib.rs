@@ -12,18 +12,22 @@
 //! - [`stamp_faults`], [`stamps`]: what may be wrong with a stamp, and made-up stamps to read;
 //! - [`extension_faults`], [`extensions`]: the same of extensions to read rights from;
 //! - [`follow`]: an index that is kept beside a card;
-//! - [`index_scene`], [`stamp_scene`], [`extension_scene`], [`scene`]: the calls that every run
-//!   begins with; [`extension_more`]: more of those that a run of rights alone begins with;
+//! - [`line`]: a step and what comes of it;
+//! - [`binary_scene`], [`index_scene`], [`stamp_scene`], [`extension_scene`], [`scene`]: the calls
+//!   that every run begins with; [`extension_more`]: more of those that a run of rights alone begins
+//!   with;
 //! - [`sequence`]: the calls, in sequences on one card each;
 //! - [`talk`]: commands for one card, each with the library's answer;
-//! - [`sort`], [`index_tally`], [`stamp_sort`], [`stamp_tally`], [`extension_sort`],
-//!   [`extension_tally`], [`tally`]: what sort of call of an index it is, of read of a stamp and of
-//!   rights; how often each sort and each outcome occurred;
+//! - [`binary_tally`], [`sort`], [`index_tally`], [`stamp_sort`], [`stamp_tally`],
+//!   [`extension_sort`], [`extension_tally`], [`tally`]: what sort of call of an index it is, of read
+//!   of a stamp and of rights; how often each sort and each outcome occurred;
 //! - [`sides`]: both implementations, side by side;
 //! - [`sample`]: a sample of calls as data.
 
 #![forbid(unsafe_code)]
 
+pub mod binary_scene;
+pub mod binary_tally;
 pub mod bodies;
 pub mod card;
 pub mod certificates;
@@ -40,6 +44,7 @@ pub mod hex;
 pub mod index;
 pub mod index_scene;
 pub mod index_tally;
+pub mod line;
 pub mod make;
 pub mod moving;
 pub mod objects;

@@ -40,7 +40,9 @@ pub fn travel_certificates() -> &'static Rule {
 pub const BIOMETRICS_KIND: u16 = 0x0400;
 pub const BIOMETRICS_ID: u16 = 0x0200;
 pub const LONGEST_IMAGE: usize = 262_144;
-pub const LARGEST_ROOM: usize = 32_768;
+pub const LARGEST_ROOM: usize = 131_072;
+/// The most bytes that a reply has in front of its status word.
+pub const LONGEST_REPLY: usize = 2_048;
 pub const SECTION_HEADER: usize = 6;
 pub const SESSION_LEN: usize = 25;
 /// The rights of one certificate, and of the three of a chain.
@@ -107,6 +109,16 @@ pub fn length(n: usize) -> Vec<u8> {
     }
 }
 
+/// A number in so many bytes, at most four, the highest first.
+pub fn number(number: usize, bytes: usize) -> Vec<u8> {
+    (number as u32).to_be_bytes()[4 - bytes..].to_vec()
+}
+
+/// How many bytes a number needs, at least one.
+pub fn fewest_bytes(number: usize) -> usize {
+    (1..4).find(|bytes| number >> (8 * bytes) == 0).unwrap_or(4)
+}
+
 /// The data field of a SEARCH RECORD, its objects made by a function like [`object`].
 pub fn search(
     mut object: impl FnMut(&[u8], &[u8]) -> Vec<u8>,
@@ -127,8 +139,47 @@ pub fn search(
     object(&[0x7F, 0x76], &inside.concat())
 }
 
+/// The value of the object with this tag that bytes begin with, and what is behind it.
+pub fn value<'a>(tag: &[u8], bytes: &'a [u8]) -> Option<(&'a [u8], &'a [u8])> {
+    let (length, rest) = match bytes.strip_prefix(tag)? {
+        [0x82, high, low, rest @ ..] => (u16::from_be_bytes([*high, *low]), rest),
+        [0x81, low, rest @ ..] => (u16::from(*low), rest),
+        [low @ ..=0x7F, rest @ ..] => (u16::from(*low), rest),
+        _ => return None,
+    };
+    rest.split_at_checked(usize::from(length))
+}
+
+/// What [`search`] puts together.
+pub struct Search<'a> {
+    pub file: &'a [u8],
+    pub how: u8,
+    /// Offset and number.
+    pub window: [&'a [u8]; 2],
+    pub string: &'a [u8],
+}
+
+/// The parts of a data field that is nested as that of a search is.
+pub fn search_parts(data: &[u8]) -> Option<Search<'_>> {
+    let (inside, _) = value(&[0x7F, 0x76], data)?;
+    let (file, rest) = value(&[0x51], inside)?;
+    let (configuration, rest) = value(&[0xA1], rest)?;
+    let (how, windows) = value(&[0x80], configuration)?;
+    let (window, _) = value(&[0xB0], windows)?;
+    let (offset, behind) = value(&[0x02], window)?;
+    let (number, _) = value(&[0x02], behind)?;
+    let (strings, _) = value(&[0xA3], rest)?;
+    let (string, _) = value(&[0xB1], strings)?;
+    Some(Search {
+        file,
+        how: *how.first()?,
+        window: [offset, number],
+        string: value(&[0x81], string)?.0,
+    })
+}
+
 /// A command before it is put into one of ISO's seven shapes.
-#[derive(Clone)]
+#[derive(Clone, Debug, PartialEq, Eq)]
 pub struct Apdu {
     pub cla: u8,
     pub ins: u8,
@@ -167,6 +218,42 @@ impl Apdu {
         self
     }
 
+    /// The command of these bytes; none where they have none of the seven shapes.
+    pub fn read(bytes: &[u8]) -> Option<Self> {
+        let (&[cla, ins, p1, p2], body) = bytes.split_first_chunk()?;
+        let new = Self::new(cla, ins, p1, p2);
+        match body {
+            [] => Some(new),
+            [le] => Some(new.le(u16::from(*le))),
+            [0, high, low] => Some(new.le(two(*high, *low)).extended(true)),
+            [0, high, low, rest @ ..] => new.extended(true).with(two(*high, *low), rest),
+            [lc, rest @ ..] => new.with(u16::from(*lc), rest),
+        }
+    }
+
+    /// With so many of these bytes as data, and with Le behind them or without.
+    fn with(self, lc: u16, bytes: &[u8]) -> Option<Self> {
+        let (data, le) = bytes.split_at_checked(usize::from(lc))?;
+        let extended = self.extended;
+        let new = self.data(data.to_vec());
+        match le {
+            _ if lc == 0 => None,
+            [] => Some(new),
+            [le] if !extended => Some(new.le(u16::from(*le))),
+            [high, low] if extended => Some(new.le(two(*high, *low))),
+            _ => None,
+        }
+    }
+
+    /// How many bytes the reply may have; none where the command has no Le.
+    pub fn ne(&self) -> Option<usize> {
+        Some(match (self.le?, self.extended) {
+            (0, true) => 0x1_0000,
+            (0, false) => 0x100,
+            (le, _) => usize::from(le),
+        })
+    }
+
     /// The command's bytes. Data too long for a short Lc take the extended shape.
     pub fn bytes(&self) -> Vec<u8> {
         let mut bytes = vec![self.cla, self.ins, self.p1, self.p2];
@@ -184,6 +271,10 @@ impl Apdu {
         }
         bytes
     }
+}
+
+fn two(high: u8, low: u8) -> u16 {
+    u16::from_be_bytes([high, low])
 }
 
 fn put_number(bytes: &mut Vec<u8>, number: u16, extended: bool) {

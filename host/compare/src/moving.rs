@@ -37,6 +37,8 @@ enum Fault {
     Kind,
     /// A length at the border of what the kind may have.
     Border,
+    /// A biometrics file in the largest room, or in one of a byte more.
+    Largest,
     Huge,
     /// All sections together are as long as an image may be, or about so.
     Limit,
@@ -123,6 +125,7 @@ fn some_fault(random: &mut Random) -> Fault {
         (1, Fault::Exchanged),
         (2, Fault::Kind),
         (3, Fault::Border),
+        (3, Fault::Largest),
         (1, Fault::Huge),
         (2, Fault::Limit),
     ])
@@ -155,6 +158,12 @@ fn spoil(random: &mut Random, rows: &mut Vec<(u16, usize)>, rooms: &[Room], faul
             ]);
         }
         Fault::Border => rows[at].1 = border(random, rows[at].0),
+        Fault::Largest => {
+            let files = rows.iter_mut().filter(|(kind, _)| *kind > BIOMETRICS_KIND);
+            if let Some((_, length)) = files.last() {
+                *length = BIOMETRICS_HEADER + LARGEST_ROOM + random.pick(&[0, 1, 1]);
+            }
+        }
         Fault::Huge => {
             rows[at].1 = random.pick(&[0xFFFF_FFFF, 0xFFFF_FFFA, 0x8000_0000, 0x0100_0000]);
         }

@@ -12,9 +12,9 @@ use crate::tally::Tally;
 use std::ops::RangeInclusive;
 
 /// The seed of the sample that is kept as data.
-pub const SEED: u64 = 93_053;
+pub const SEED: u64 = 94_175;
 /// The most bytes the sample may have. The program that reads it has room for 524,288 bytes.
-pub const LONGEST: usize = 500_000;
+pub const LONGEST: usize = 522_000;
 /// What the response buffer holds before each command, and the target before each move.
 const FILL: u8 = 0xA5;
 

@@ -1,23 +1,18 @@
 //! The calls that every run begins with: a card with the travel application, moved to larger
 //! rooms and on to others, with commands before and behind each move, and each refusal of a move;
-//! then files to find, and certificates to find in bodies of each sort; then an index, beside a
-//! card and alone; then stamps; then rights, for a card and alone.
+//! then files that are read and written by offsets in objects; then files to find, and certificates
+//! to find in bodies of each sort; then an index, beside a card and alone; then stamps; then rights,
+//! for a card and alone.
 
+use crate::binary_scene;
 use crate::extension_scene::{self, torn_chain, travel_chain};
 use crate::hex::hex;
 use crate::index_scene::{self, built, extended, not_extended, read};
+use crate::line::{card, moved, moves, refused, run, select, select_with, Line};
 use crate::make::{self, Apdu, LONGEST_IMAGE, RIGHTS_LEN, SESSION_LEN, SHORTEST_RESPONSE};
 use crate::stamp_scene;
 use crate::step::Step;
 use std::ops::RangeInclusive;
-
-/// A step and what comes of it: a command's answer in hexadecimal; `refusal` and its number, or
-/// how many bytes the new image has; how many bytes a file has and where, or `none`; of each
-/// certificate the body that has it, its place there and its bytes, or `missing`, or `refusal 9`,
-/// with a comma between them; of an index what [`index_scene`] says, of a stamp what
-/// [`stamp_scene`] says, and of rights what [`extension_scene`] says; nothing for what is no call,
-/// and for the opening.
-pub type Line = (Step, String);
 
 const ENTRY: u16 = 0x0101;
 const EXIT: u16 = 0x0102;
@@ -42,6 +37,7 @@ pub fn lines() -> Vec<Line> {
         applications_added(),
         an_activated_file_moved(),
         the_longest_card(),
+        binary_scene::lines(),
         bad_and_empty_cards(),
         files(),
         no_files(),
@@ -56,34 +52,6 @@ pub fn lines() -> Vec<Line> {
         extension_scene::lines(),
     ]
     .concat()
-}
-
-fn card(image: Vec<u8>) -> Line {
-    (Step::Image(image), String::new())
-}
-
-fn run(command: &Apdu, answer: &str) -> Line {
-    let step = Step::Command {
-        response_len: SHORTEST_RESPONSE,
-        command: command.bytes(),
-        record: None,
-    };
-    (step, answer.to_string())
-}
-
-fn moves(list: Vec<u8>, target_len: usize, outcome: &str) -> Line {
-    (Step::Move { target_len, list }, outcome.to_string())
-}
-
-/// A move that is done, with a target of `more` bytes than it needs.
-fn moved(rows: &[(u16, usize)], more: usize) -> Line {
-    let length = rows.iter().map(|(_, length)| 6 + length).sum::<usize>();
-    moves(make::list(rows), length + more, &format!("{length} bytes"))
-}
-
-/// A move that is refused though the target has room enough.
-fn refused(rows: &[(u16, usize)], number: u8) -> Line {
-    moves(make::list(rows), 400, &format!("refusal {number}"))
 }
 
 fn file(kind: u16, outcome: &str) -> Line {
@@ -110,15 +78,6 @@ fn certificates(
 /// Refusal 9 for each of these references.
 fn refused_bodies(card: &[u8], desk: &[u8], references: RangeInclusive<u8>) -> Line {
     certificates(card, desk, references, |_| "refusal 9".to_string())
-}
-
-fn select(application: u8) -> Line {
-    select_with(application, "9000")
-}
-
-fn select_with(application: u8, answer: &str) -> Line {
-    let command = Apdu::new(0x00, 0xA4, 0x04, 0x0C).data(make::aid(application).to_vec());
-    run(&command, answer)
 }
 
 fn append(short_id: u8, record: &[u8], answer: &str) -> Line {
@@ -210,7 +169,7 @@ fn refused_lists() -> Vec<Line> {
         refused(&[entry, exit, certificates, (VISAS, 40)], 10),
         refused(&travel(40, 1, 40), 10),
         biometrics(4),
-        biometrics(32_774),
+        biometrics(131_078),
         refused(&travel(too_long, 40, 40), 10),
         refused(&travel(0xFFFF_FFFF, 40, 40), 10),
         refused(&travel(40, 0xFFFF_FFD2, 40), 10),
@@ -297,9 +256,9 @@ fn an_activated_file_moved() -> Vec<Line> {
         moved(&all(20, 11), 0),
         run(&read, "5f44035553419000"),
         run(&Apdu::new(0x00, 0x44, 0x00, 0x00), "6982"),
-        moved(&all(20, 32_773), 0),
+        moved(&all(20, 131_077), 0),
         run(&read, "5f44035553419000"),
-        run(&total_of_current, "7f7804810280009000"),
+        run(&total_of_current, "7f780581030200009000"),
     ]
 }
 

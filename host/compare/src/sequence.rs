@@ -1,6 +1,7 @@
 //! The calls of a run, in sequences on one card each. A sequence goes on from what its own
 //! commands left.
 
+use crate::binary_scene;
 use crate::card::{self, Size};
 use crate::certificates;
 use crate::command;
@@ -92,7 +93,11 @@ impl Sequence {
     }
 
     fn scene(random: Random, size: Size) -> Self {
-        let steps = scene::lines().into_iter().map(|(step, _)| step).collect();
+        let mut lines = scene::lines();
+        if size == Size::Any {
+            lines.extend(binary_scene::all_of_the_largest());
+        }
+        let steps = lines.into_iter().map(|(step, _)| step).collect();
         Self::of_steps(random, size, steps)
     }
 
@@ -140,10 +145,15 @@ impl Sequence {
             Size::Small => random.below(3),
             Size::Any => random.below(6),
         };
+        let commands_left = match size {
+            // A card takes many bytes of a sample, so that more is done with it.
+            Size::Small => random.between(60, 70),
+            Size::Any => random.between(36, 44),
+        };
         let steps = vec![Step::Image(image), Step::Session(session), rights];
         Self {
             opens,
-            commands_left: random.between(36, 44),
+            commands_left,
             damages_left,
             ..Self::of_steps(random, size, steps)
         }

@@ -138,6 +138,17 @@ pub fn compare_machines(
     compare_sequences(seed, calls, proved, reference, sequence)
 }
 
+/// The same without the calls that every run begins with: what is made up alone.
+pub fn compare_without_scene(
+    seed: u64,
+    calls: u64,
+    proved: &Machine,
+    reference: &Machine,
+) -> Result<Tally, Box<Difference>> {
+    let sequence = |seed, number| Sequence::new(seed, 1 + number, Size::Any);
+    compare_sequences(seed, calls, proved, reference, sequence)
+}
+
 /// The same with the sequences that a seed and a number give.
 fn compare_sequences(
     seed: u64,

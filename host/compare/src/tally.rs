@@ -1,5 +1,6 @@
 //! How often each outcome occurred.
 
+use crate::binary_tally::BinaryTally;
 use crate::command::NAMES;
 use crate::extension_tally::ExtensionTally;
 use crate::index_tally::IndexTally;
@@ -21,6 +22,9 @@ const WAYS: [&str; 4] = ["id", "short id", "short id in b8 to b4", "other byte"]
 /// The answers to them that are shown.
 const SEARCH_STATUSES: [u16; 6] = [0x9000, 0x6282, 0x6700, 0x6981, 0x6982, 0x6A82];
 
+/// What READ BINARY B1 may answer beside 9000 once it is known to be one.
+const B1_STATUSES: [u16; 7] = [0x6700, 0x6981, 0x6982, 0x6986, 0x6A80, 0x6A82, 0x6B00];
+
 /// What a move may be refused with.
 pub const MOVE_REFUSALS: [u64; 5] = [2, 10, 11, 12, 13];
 
@@ -29,7 +33,7 @@ const CERTIFICATES: [&str; 4] = ["refusal 9", "missing", "card", "desk"];
 /// What the body of certificates may be like that a reference is looked up in.
 const FORMS: [&str; 4] = ["damaged", "empty", "full", "other"];
 
-/// Where a command belongs that is none of the eight by its first two bytes.
+/// Where a command belongs that is none of the nine by its first two bytes.
 const OTHER: usize = NAMES.len();
 
 #[derive(Default)]
@@ -53,6 +57,7 @@ pub struct Tally {
     bodies: [[u64; 4]; 4],
     /// Calls by reference, without those that were refused.
     references: BTreeMap<u8, u64>,
+    pub binary: BinaryTally,
     pub index: IndexTally,
     pub stamp: StampTally,
     pub extension: ExtensionTally,
@@ -72,6 +77,7 @@ impl Tally {
         if let Step::Certificates { card, desk, .. } = step {
             self.bodies[form(card)][form(desk)] += 1;
         }
+        self.binary.step(step, results);
         self.index.step(step, results);
         self.stamp.step(step, results);
         self.extension.step(step, results);
@@ -153,48 +159,58 @@ impl Tally {
 
     /// What occurred too seldom: each status, each refusal, 9000 of each command, 9000 of a
     /// search by an id and by either spelling of a short id, 6981 of the last two, 6A82 of a search by
-    /// another byte, moves done, files found and not, what comes of a reference, bodies that are
-    /// damaged, empty or full, each of the 256 references, each sort of call of an index, each
+    /// another byte, each status and each sort of READ BINARY B1, offsets and windows of three bytes,
+    /// moves to the largest room, moves done, files found and not, what comes of a reference, bodies
+    /// that are damaged, empty or full, each of the 256 references, each sort of call of an index, each
     /// fault of a stamp at each place, each fault of an extension.
     pub fn missing(&self, each: u64, done: u64) -> Vec<String> {
-        let statuses = STATUSES
-            .iter()
-            .map(|status| (format!("status {status:04X}"), self.total(*status), each));
-        let refusals =
-            (1..=4).map(|number| (format!("refusal {number}"), self.refusals[number], each));
-        let commands = NAMES.iter().enumerate().map(|(place, (_, name, ..))| {
-            (format!("{name} 9000"), self.count(place, 0x9000), done)
-        });
-        let searches = [
-            (0, 0x9000, done),
-            (1, 0x9000, done),
-            (2, 0x9000, done),
-            (1, 0x6981, each),
-            (2, 0x6981, each),
-            (3, 0x6A82, done),
-        ]
-        .map(|(way, status, wanted)| {
-            let what = format!("search by {}: {status:04X}", WAYS[way]);
-            (what, self.searched(way, status), wanted)
-        });
         let moves = MOVE_REFUSALS.iter().map(|number| {
             let what = format!("refusal {number} of a move");
             (what, self.moved(*number), each)
         });
         let moved = [("moves done".to_string(), self.moved(0), done)];
-        statuses
-            .chain(refusals)
-            .chain(commands)
-            .chain(searches)
+        self.wanted_commands(each, done)
+            .into_iter()
             .chain(moves)
             .chain(moved)
             .chain(self.wanted_files_and_certificates(each, done))
+            .chain(self.binary.wanted(each))
             .chain(self.index.wanted(each, done))
             .chain(self.stamp.wanted(each, done))
             .chain(self.extension.wanted(each, done))
             .filter(|(_, count, wanted)| count < wanted)
             .map(|(what, count, wanted)| format!("{what}: {count} times, {wanted} wanted"))
             .collect()
+    }
+
+    /// What is counted of commands and openings, how often it occurred and how often it should.
+    fn wanted_commands(&self, each: u64, done: u64) -> Vec<(String, u64, u64)> {
+        let mut wanted = Vec::new();
+        for status in STATUSES {
+            wanted.push((format!("status {status:04X}"), self.total(status), each));
+        }
+        for (number, count) in self.refusals.iter().enumerate().skip(1) {
+            wanted.push((format!("refusal {number}"), *count, each));
+        }
+        for (place, (_, name, ..)) in NAMES.iter().enumerate() {
+            wanted.push((format!("{name} 9000"), self.count(place, 0x9000), done));
+        }
+        for status in B1_STATUSES {
+            let count = self.count(place(&[0x00, 0xB1]), status);
+            wanted.push((format!("READ BINARY B1 {status:04X}"), count, each));
+        }
+        for (way, status, least) in [
+            (0, 0x9000, done),
+            (1, 0x9000, done),
+            (2, 0x9000, done),
+            (1, 0x6981, each),
+            (2, 0x6981, each),
+            (3, 0x6A82, done),
+        ] {
+            let what = format!("search by {}: {status:04X}", WAYS[way]);
+            wanted.push((what, self.searched(way, status), least));
+        }
+        wanted
     }
 
     /// What is counted of files and certificates, how often it occurred and how often it should.
@@ -322,7 +338,8 @@ impl fmt::Display for Tally {
             writeln!(f, "| refusal {number} | {} |", self.moved(number))?;
         }
         self.show_files_and_certificates(f)?;
-        write!(f, "{}{}{}", self.index, self.stamp, self.extension)
+        write!(f, "{}{}", self.binary, self.index)?;
+        write!(f, "{}{}", self.stamp, self.extension)
     }
 }
 

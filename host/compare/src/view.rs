@@ -46,6 +46,20 @@ impl File {
         )
     }
 
+    /// Whether this is a biometrics file with places that 15 bits do not reach.
+    pub fn is_large(&self) -> bool {
+        self.room() > 0x8000
+    }
+
+    /// How many bytes a file may come to have that is read by READ BINARY.
+    pub fn room(&self) -> usize {
+        match self.content {
+            Content::Constant { size } => size,
+            Content::Biometrics { room, .. } => room,
+            Content::Records { .. } => 0,
+        }
+    }
+
     /// How many bytes READ BINARY may read.
     pub fn size(&self) -> usize {
         match self.content {

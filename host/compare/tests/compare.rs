@@ -9,7 +9,8 @@ use compare::stamp_faults::Reason;
 use compare::step::{IndexCall, Step};
 use compare::view;
 
-const SEED: u64 = 20_000;
+/// A seed whose first 20,000 calls have each sort often enough.
+const SEED: u64 = 20_001;
 
 #[test]
 fn twenty_thousand_calls() {
@@ -60,7 +61,7 @@ fn a_difference_is_seen_and_repeats() {
             let found = compare_machines(SEED, 20_000, &wrong, &REFERENCE);
             found.err().expect("a difference").to_string()
         };
-        assert!(find().starts_with("DIFFERENCE seed 20000 sequence "));
+        assert!(find().starts_with("DIFFERENCE seed 20001 sequence "));
         assert_eq!(find(), find());
     }
 }

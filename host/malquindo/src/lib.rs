@@ -191,6 +191,31 @@ pub fn open(rights: &[u8]) -> Result<Session, Refusal> {
 }
 
 /// One command on a card image. Unless the status is 9000, image and session stay as they came.
+///
+/// A biometrics file has up to 131,072 bytes. READ BINARY with INS B0 reads from offsets up to
+/// 32,767, with INS B1 from any: its data is the object `54` with an offset of one to three bytes, as
+/// in UPDATE BINARY, and its reply is the object `53` with the file's bytes.
+///
+/// A file that is written and then read by B1:
+///
+/// ```
+/// let mut image = [0; 8 + 11 + 16];
+/// malquindo::move_card(&[], &[(0x031A, 2), (0x0401, 5 + 16)], &mut image)?;
+/// let mut session = malquindo::open(&[0xFF; 60])?;
+/// let mut response = [0; malquindo::RESPONSE_LEN];
+/// let mut run = |command: &[u8]| {
+///     malquindo::command(&mut image, &mut session, command, &mut response)
+///         .map(|answer| (answer.data.to_vec(), answer.status))
+/// };
+///
+/// run(&[0x00, 0xA4, 0x04, 0x0C, 7, 0xA0, 0x00, 0x00, 0x02, 0x47, 0x20, 0x03])?;
+/// let update = [0x00, 0xD7, 0x02, 0x01, 7, 0x54, 1, 0, 0x53, 2, 0xAA, 0xBB];
+/// assert_eq!(run(&update)?, (vec![], 0x9000));
+/// // The offset 1, in three bytes; Le 00.
+/// let read = [0x00, 0xB1, 0x02, 0x01, 5, 0x54, 3, 0, 0, 1, 0x00];
+/// assert_eq!(run(&read)?, (vec![0x53, 1, 0xBB], 0x9000));
+/// # Ok::<(), malquindo::Refusal>(())
+/// ```
 pub fn command<'r>(
     image: &mut [u8],
     session: &mut Session,
@@ -404,6 +429,82 @@ mod tests {
         assert_eq!(target, [0xA5; 13]);
         let new = move_card(&held, &rooms, &mut target).unwrap();
         assert_eq!(new, [7, 0, 0, 0, 0x1A, 0x03, 1, 0, 1, 0, 7, 0, 0]);
+    }
+
+    /// The answer to a command, on a card with all rights.
+    fn run(image: &mut [u8], session: &mut Session, command: &[u8]) -> (Vec<u8>, u16) {
+        let mut response = [0; RESPONSE_LEN];
+        let answer = super::command(image, session, command, &mut response).unwrap();
+        (answer.data.to_vec(), answer.status)
+    }
+
+    /// The object 54 of an offset in three bytes.
+    fn at(offset: usize) -> Vec<u8> {
+        let [_, bytes @ ..] = (offset as u32).to_be_bytes();
+        [&[0x54, 3][..], &bytes].concat()
+    }
+
+    /// UPDATE BINARY of Biometrics 1, with at least 256 bytes.
+    fn update(offset: usize, bytes: &[u8]) -> Vec<u8> {
+        let length = |n: usize| (n as u16).to_be_bytes();
+        let data = [&at(offset)[..], &[0x53, 0x82], &length(bytes.len()), bytes].concat();
+        [&[0x00, 0xD7, 0x02, 0x01, 0], &length(data.len())[..], &data].concat()
+    }
+
+    /// READ BINARY B1 of Biometrics 1, with the longest reply.
+    fn read_at(offset: usize) -> Vec<u8> {
+        [&[0x00, 0xB1, 0x02, 0x01, 0, 0, 5][..], &at(offset), &[0, 0]].concat()
+    }
+
+    /// The bytes in an object 53 of at least 256 bytes.
+    fn unwrapped(reply: &[u8]) -> &[u8] {
+        let [0x53, 0x82, high, low, bytes @ ..] = reply else {
+            panic!("no object 53 of 256 bytes or more");
+        };
+        assert_eq!(bytes.len(), usize::from(u16::from_be_bytes([*high, *low])));
+        bytes
+    }
+
+    /// A file in the largest room, written to its end and read back.
+    #[test]
+    fn a_file_of_131_072_bytes() {
+        const ROOM: usize = 131_072;
+        let content: Vec<u8> = (0..ROOM)
+            .map(|at| (at ^ at >> 8 ^ at >> 16) as u8)
+            .collect();
+        let mut image = vec![0; 8 + 11 + ROOM];
+        move_card(&[], &[(0x031A, 2), (0x0401, 5 + ROOM as u32)], &mut image).unwrap();
+        let mut session = open(&[0xFF; 60]).unwrap();
+        let select = [0x00, 0xA4, 0x04, 0x0C, 7, 0xA0, 0, 0, 2, 0x47, 0x20, 3];
+        assert_eq!(run(&mut image, &mut session, &select), (vec![], 0x9000));
+        for (piece, offset) in content.chunks(512).zip((0..).step_by(512)) {
+            let command = update(offset, piece);
+            assert_eq!(run(&mut image, &mut session, &command), (vec![], 0x9000));
+        }
+        let more = update(ROOM, &[7; 256]);
+        assert_eq!(run(&mut image, &mut session, &more), (vec![], 0x6A84));
+        let mut got: Vec<u8> = Vec::new();
+        while got.len() < ROOM {
+            let (reply, status) = run(&mut image, &mut session, &read_at(got.len()));
+            assert_eq!(status, 0x9000);
+            got.extend(unwrapped(&reply));
+        }
+        assert!(got == content);
+        assert_eq!(
+            run(&mut image, &mut session, &read_at(ROOM)),
+            (vec![], 0x6B00)
+        );
+        // B0 reads from no place behind 32,767.
+        let b0 = [0x00, 0xB0, 0x7F, 0xFF, 0, 0, 0];
+        let (reply, _) = run(&mut image, &mut session, &b0);
+        assert_eq!(reply, content[0x7FFF..][..2_048]);
+    }
+
+    #[test]
+    fn a_room_of_131_073_bytes_is_none() {
+        let mut target = vec![0; 8 + 11 + 131_073];
+        let rooms = [(0x031A, 2), (0x0401, 5 + 131_073)];
+        assert_eq!(move_card(&[], &rooms, &mut target), Err(Refusal::BadList));
     }
 
     /// One certificate of one byte; two, with a free byte behind them; none.

@@ -1,5 +1,6 @@
-//! The eight commands. Each function below makes the tests of steps 4 to 10 in their order. A
-//! status other than 9000 is an `Err`, given before anything is changed.
+//! The eight commands; READ BINARY has two forms, INS B0 and INS B1. Each function below makes the
+//! tests of steps 4 to 10 in their order. A status other than 9000 is an `Err`, given before
+//! anything is changed.
 
 use crate::apdu::{Apdu, Le};
 use crate::image::{Application, BiometricsFile, File, Layout, RecordFile, TransparentFile};
@@ -28,6 +29,8 @@ const WRONG_CLA: Status = 0x6E00;
 
 /// The most data that READ BINARY and READ RECORD answer.
 const LONGEST_REPLY: usize = 2_048;
+/// An object with a tag of one byte and one byte of content; less of a file cannot be wrapped.
+const SHORTEST_WRAPPED: usize = 3;
 /// The most records that any file has.
 const MOST_RECORDS: usize = 254;
 
@@ -52,7 +55,8 @@ pub fn run(
     let mut reply = Reply::new(response);
     let session = match (apdu.cla, apdu.ins) {
         (0x00, 0xA4) => card.select(&apdu),
-        (0x00, 0xB0) => card.read_binary(&apdu, image, &mut reply),
+        (0x00, 0xB0) => card.read_binary_b0(&apdu, image, &mut reply),
+        (0x00, 0xB1) => card.read_binary_b1(&apdu, image, &mut reply),
         (0x00, 0xD7) => card.update_binary(&apdu, image),
         (0x00, 0x44) => card.activate(&apdu, image),
         (0x00, 0xE2) => card.append_record(&apdu, image),
@@ -107,9 +111,15 @@ impl Card<'_> {
         Ok(self.session.selecting(Application::MasterFile))
     }
 
-    /// READ BINARY. b8 of P1 tells how the file is named: by a short id in P1, and P2 is the
-    /// offset; or it is the current file, and the offset has 15 bits.
-    fn read_binary(&self, apdu: &Apdu, image: &[u8], reply: &mut Reply) -> Result<Session, Status> {
+    /// READ BINARY with INS B0. b8 of P1 tells how the file is named: by a short id in P1, and P2
+    /// is the offset; or it is the current file, and the offset has 15 bits. The reply is the bytes
+    /// themselves.
+    fn read_binary_b0(
+        &self,
+        apdu: &Apdu,
+        image: &[u8],
+        reply: &mut Reply,
+    ) -> Result<Session, Status> {
         let by_short_id = apdu.p1 & 0x80 != 0;
         require(!by_short_id || apdu.p1 & 0x60 == 0, WRONG_P1_P2)?;
         let (None, Some(le)) = (apdu.data, apdu.le) else {
@@ -120,13 +130,33 @@ impl Card<'_> {
         } else {
             (self.current_file()?, usize::from(apdu.p1_p2()))
         };
-        let transparent = transparent_file(&file)?;
-        self.require_right(&file, Use::Read)?;
+        let transparent = self.readable_file(&file)?;
 
-        let content = transparent.content(image);
-        require(offset < content.len(), WRONG_OFFSET)?;
-        let rest = &content[offset..];
+        let rest = content_from(offset, transparent.content(image))?;
         reply.put(&rest[..rest.len().min(le.ne()).min(LONGEST_REPLY)]);
+        Ok(self.session.setting_file(file.id()))
+    }
+
+    /// READ BINARY with INS B1, of the current file (P1-P2 0000), or of the file whose id P1-P2 is.
+    /// The offset is in the data, so that it can reach every byte of the largest room. The reply is
+    /// an object: `53` around as many bytes as fit.
+    fn read_binary_b1(
+        &self,
+        apdu: &Apdu,
+        image: &[u8],
+        reply: &mut Reply,
+    ) -> Result<Session, Status> {
+        let (Some(data), Some(le)) = (apdu.data, apdu.le) else {
+            return Err(WRONG_LENGTH);
+        };
+        let offset = objects::read_offset(data).ok_or(WRONG_DATA)?;
+        let file = self.file_of_p1_p2(apdu.p1_p2())?;
+        let transparent = self.readable_file(&file)?;
+
+        let rest = content_from(offset, transparent.content(image))?;
+        require(le.ne() >= SHORTEST_WRAPPED, WRONG_LENGTH)?;
+        let fitting = most_wrapped(rest.len(), le.ne().min(LONGEST_REPLY));
+        reply.put_object(0x53, &rest[..fitting]);
         Ok(self.session.setting_file(file.id()))
     }
 
@@ -134,10 +164,7 @@ impl Card<'_> {
     /// offset is at most w, so that no byte is left unwritten between.
     fn update_binary(&self, apdu: &Apdu, image: &mut [u8]) -> Result<Session, Status> {
         let update = Update::read(data_without_le(apdu)?).ok_or(WRONG_DATA)?;
-        let file = match apdu.p1_p2() {
-            0x0000 => self.current_file()?,
-            id => self.file_by_id(id)?,
-        };
+        let file = self.file_of_p1_p2(apdu.p1_p2())?;
         let biometrics = self.writable_file(&file)?;
 
         require(update.offset <= biometrics.written, WRONG_DATA)?;
@@ -300,9 +327,25 @@ impl Card<'_> {
         }
     }
 
+    /// The file that P1-P2 of UPDATE BINARY, and of READ BINARY with INS B1, names: its id, or 0000
+    /// for the current file. No file has id 0000.
+    fn file_of_p1_p2(&self, p1_p2: u16) -> Result<File, Status> {
+        match p1_p2 {
+            0x0000 => self.current_file(),
+            id => self.file_by_id(id),
+        }
+    }
+
     /// Step 9.
     fn require_right(&self, file: &File, wanted: Use) -> Result<(), Status> {
         require(self.session.rights.allow(file, wanted), RIGHT_MISSING)
+    }
+
+    /// Steps 8 and 9 of READ BINARY in both forms.
+    fn readable_file<'a>(&self, file: &'a File) -> Result<&'a TransparentFile, Status> {
+        let transparent = transparent_file(file)?;
+        self.require_right(file, Use::Read)?;
+        Ok(transparent)
     }
 
     /// Steps 8 and 9 of UPDATE BINARY and ACTIVATE. The files of the master file are never
@@ -355,6 +398,21 @@ fn transparent_file(file: &File) -> Result<&TransparentFile, Status> {
         File::Records(_) => Err(WRONG_FILE_TYPE),
         File::Transparent(transparent) => Ok(transparent),
     }
+}
+
+/// What a file's content has from an offset on, which is one byte at least.
+fn content_from(offset: usize, content: &[u8]) -> Result<&[u8], Status> {
+    require(offset < content.len(), WRONG_OFFSET)?;
+    Ok(&content[offset..])
+}
+
+/// How many of the bytes at hand fit into an object of at most `limit` bytes that has a tag of one
+/// byte. Tag and length take four bytes at most, so that few sizes are tried.
+fn most_wrapped(at_hand: usize, limit: usize) -> usize {
+    (0..=at_hand.min(limit))
+        .rev()
+        .find(|size| 1 + length_field_size(*size) + size <= limit)
+        .unwrap_or(0)
 }
 
 /// The numbers of the records to list, in their order.
@@ -454,7 +512,7 @@ impl<'a> Reply<'a> {
         self.length = end;
     }
 
-    /// The length field of a data object.
+    /// The length field of a data object, in its shortest form.
     fn put_length(&mut self, length: usize) {
         let [.., high, low] = length.to_be_bytes();
         match length_field_size(length) {
@@ -464,9 +522,10 @@ impl<'a> Reply<'a> {
         }
     }
 
-    /// A one-byte tag, a length below 80 and a value.
+    /// A one-byte tag, the length and a value.
     fn put_object(&mut self, tag: u8, value: &[u8]) {
-        self.put(&[tag, value.len() as u8]);
+        self.put(&[tag]);
+        self.put_length(value.len());
         self.put(value);
     }
 }

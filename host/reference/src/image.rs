@@ -17,7 +17,7 @@ const FIRST_BIOMETRICS_ID: u16 = 0x0201;
 /// Bytes before a biometrics file's room: the state, and how many bytes are written (4 bytes).
 const BIOMETRICS_HEADER: usize = 5;
 /// The largest room of a biometrics file.
-const LARGEST_ROOM: usize = 32_768;
+const LARGEST_ROOM: usize = 131_072;
 /// A body of no content, of each length that an image has room for.
 static EMPTY_BODY: [u8; LONGEST_IMAGE] = [0; LONGEST_IMAGE];
 

@@ -9,7 +9,7 @@
 //! - `session`: rights, selected application and current place;
 //! - `apdu` and `objects`: readers of the command's shape and its data objects;
 //! - `search`: whether a string occurs in a window;
-//! - `commands`: the eight commands;
+//! - `commands`: the eight commands, READ BINARY in its two forms;
 //! - `moving`: the move of a card to rooms of other sizes;
 //! - `certificates`: the certificate that a stamp names, on the card or in the desk's copy;
 //! - `index`: the places of a body's records, kept to read a record without a walk;

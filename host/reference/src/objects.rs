@@ -1,10 +1,15 @@
-//! Data objects: reading them out of a data field, and what the three commands that send some
-//! say with them. Where a function here gives None, the command's answer is 6A80.
+//! Data objects: reading them out of a data field, and what the four commands that send some
+//! say with them: READ BINARY with INS B1, UPDATE BINARY, SEARCH RECORD and FMM. Where a function
+//! here gives None, the command's answer is 6A80.
 //!
 //! Stamps and certificate extensions have the same objects, but answers of their own.
 
 /// How deep objects may be nested.
 const DEEPEST: usize = 4;
+/// The most bytes of an offset into a file; two would not reach the end of the largest room.
+const OFFSET_BYTES: usize = 3;
+/// The most bytes of each of the two numbers of a search window.
+const WINDOW_BYTES: usize = 2;
 
 /// Data objects that stand side by side, and how deep objects may still be nested from here.
 pub struct Objects<'a> {
@@ -41,13 +46,23 @@ impl<'a> Objects<'a> {
         })
     }
 
-    /// The number in the next object, one or two bytes, big-endian.
-    fn number(&mut self, tag: &[u8]) -> Option<usize> {
-        match *self.value(tag)? {
-            [low] => Some(usize::from(low)),
-            [high, low] => Some(usize::from(u16::from_be_bytes([high, low]))),
-            _ => None,
+    /// The number in the next object, big-endian: at least one byte, and at most as many as the
+    /// command allows there. Zeros may lead.
+    fn number(&mut self, tag: &[u8], most_bytes: usize) -> Option<usize> {
+        let bytes = self.value(tag)?;
+        if bytes.is_empty() || bytes.len() > most_bytes {
+            return None;
         }
+        Some(
+            bytes
+                .iter()
+                .fold(0, |number, byte| 256 * number + usize::from(*byte)),
+        )
+    }
+
+    /// The offset into a file in the next object, which must be `54`.
+    fn offset(&mut self) -> Option<usize> {
+        self.number(&[0x54], OFFSET_BYTES)
     }
 
     /// Whether no byte is left, where any number of objects may stand.
@@ -73,6 +88,14 @@ pub fn split_length(bytes: &[u8]) -> Option<(usize, &[u8])> {
     }
 }
 
+/// Where READ BINARY with INS B1 is to begin: `54` the offset, and nothing else.
+pub fn read_offset(data: &[u8]) -> Option<usize> {
+    let mut objects = Objects::of(data);
+    let offset = objects.offset()?;
+    objects.end()?;
+    Some(offset)
+}
+
 /// What UPDATE BINARY is to write, and where.
 pub struct Update<'a> {
     pub offset: usize,
@@ -83,7 +106,7 @@ impl<'a> Update<'a> {
     /// `54` the offset, `53` the bytes, perhaps none.
     pub fn read(data: &'a [u8]) -> Option<Self> {
         let mut objects = Objects::of(data);
-        let offset = objects.number(&[0x54])?;
+        let offset = objects.offset()?;
         let bytes = objects.value(&[0x53])?;
         objects.end()?;
         Some(Self { offset, bytes })
@@ -131,8 +154,8 @@ impl<'a> Search<'a> {
         let mut window = configuration.inside(&[0xB0])?;
         configuration.end()?;
 
-        let offset = window.number(&[0x02])?;
-        let number = window.number(&[0x02])?;
+        let offset = window.number(&[0x02], WINDOW_BYTES)?;
+        let number = window.number(&[0x02], WINDOW_BYTES)?;
         window.end()?;
 
         let mut string_template = strings.inside(&[0xB1])?;

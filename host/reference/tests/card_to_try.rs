@@ -375,8 +375,9 @@ fn refusal_2_image() {
     assert_eq!(refused(&with(0x0401, biometrics(2, 4, &[]))), 2);
     assert_eq!(refused(&with(0x0401, vec![0; 4])), 2);
     assert_eq!(refused(&with(0x0401, hex("0001000000"))), 2);
-    assert_eq!(refused(&with(0x0401, biometrics(0, 32_768, &[]))), 0);
-    assert_eq!(refused(&with(0x0401, biometrics(0, 32_769, &[]))), 2);
+    assert_eq!(refused(&with(0x0401, biometrics(0, 32_769, &[]))), 0);
+    assert_eq!(refused(&with(0x0401, biometrics(0, 131_072, &[]))), 0);
+    assert_eq!(refused(&with(0x0401, biometrics(0, 131_073, &[]))), 2);
     assert_eq!(refused(&with(0x031A, records(2, &[]))), 2);
 
     let none = || records(2, &[]);
@@ -638,6 +639,7 @@ fn biometrics_rules() {
     card.fails("00D7020105540100530000", 0x6700);
     card.fails("00D70201055301005400", 0x6A80);
     card.fails("00D7020104 54005300", 0x6A80);
+    card.fails("00D7020108 5404000000005300", 0x6A80);
     card.fails("00D7020108 5403000000530000", 0x6A80);
     card.fails("00D7020106 540100538100", 0x6A80);
     card.fails("00D7020107 54010053820000", 0x6A80);
@@ -645,6 +647,8 @@ fn biometrics_rules() {
     card.ok("00D70201055401035300");
     assert_eq!(card.place(), (3, 1, 0x0201, 0));
     card.fails("00D70000055401045300", 0x6A80);
+    card.fails("00D7000007 5403000004 5300", 0x6A80);
+    card.ok("00D7000007 5403000003 5300");
     card.ok("00D7000007540200035301AA");
     card.expect("00B0000000", "010203AA", 0x9000);
     let fill = format!("00D7000015 540104 5310 {}", "BB".repeat(16));
@@ -777,7 +781,7 @@ fn binary_reads_are_cut() {
     let content: Vec<u8> = (0..5_000_u32).map(|i| i as u8).collect();
     let card_image = image(&[
         (0x031A, records(2, &[])),
-        (0x0401, biometrics(0, 32_768, &content)),
+        (0x0401, biometrics(0, 131_072, &content)),
     ]);
     let mut card = Machine::all_rights(card_image);
     card.ok(BIOMETRICS);
@@ -822,6 +826,7 @@ fn search_rules() {
     card.fails(&template("01", "00", "020100", "03"), 0x6A80);
     card.fails(&template("01", "00", "02000200", "03"), 0x6A80);
     card.fails(&template("01", "00", "0203000000020100", "03"), 0x6A80);
+    card.fails(&template("01", "00", "0201000203000000", "03"), 0x6A80);
     card.fails(&template("01", "00", "020100020100020100", "03"), 0x6A80);
     card.fails(&template("01", "00", open, ""), 0x6A80);
     // Record n is 3 + n bytes of value n: five records, 4 to 8 bytes long.
@@ -1124,6 +1129,9 @@ fn smoke() {
         "00B0810000",
         "00B00001000000",
         "00B09E0305",
+        "00B102010354010000",
+        "00B10000055403000001 05",
+        "00B12F01000004540200030000",
         "00D70201075401005302AABB",
         "00D7000007540200035301AA",
         "00440000",

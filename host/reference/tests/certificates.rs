@@ -504,17 +504,17 @@ fn what_a_body_holds_does_not_count() {
         (0x0203, with_free(alike(2, 512), 0xAA, 1_030)),
         (0x021A, with_free(alike(254, 1), 0xAA, 900)),
         (0x031A, alike(64, 929)),
-        (0x0402, biometrics(1, 32_768, 32_768)),
+        (0x0402, biometrics(1, 131_072, 131_072)),
         (0x0407, biometrics(0, 16, 3)),
         (0x0440, biometrics(1, 0, 0)),
     ]);
     assert_eq!(file(&card, 0x0203), stands(6, 1_030));
     assert_eq!(file(&card, 0x021A), stands(1_042, 900));
     assert_eq!(file(&card, 0x031A), stands(1_948, 59_586));
-    assert_eq!(file(&card, 0x0402), stands(61_540, 32_773));
-    assert_eq!(file(&card, 0x0407), stands(94_319, 21));
-    assert_eq!(file(&card, 0x0440), stands(94_346, 5));
-    assert_eq!(card.len(), 94_351);
+    assert_eq!(file(&card, 0x0402), stands(61_540, 131_077));
+    assert_eq!(file(&card, 0x0407), stands(192_623, 21));
+    assert_eq!(file(&card, 0x0440), stands(192_650, 5));
+    assert_eq!(card.len(), 192_655);
     for kind in [
         0x0101, 0x0102, 0x011A, 0x0401, 0x0403, 0x0406, 0x043F, 0x0441,
     ] {
@@ -642,7 +642,7 @@ fn images_with_damaged_bodies() {
     no_file(&with(alike(64, 1), biometrics(2, 4, 4)));
     no_file(&with(alike(64, 1), biometrics(1, 4, 5)));
     no_file(&with(alike(64, 1), biometrics(1, 4, 0x8000_0000)));
-    no_file(&with(alike(64, 1), biometrics(1, 32_769, 4)));
+    no_file(&with(alike(64, 1), biometrics(1, 131_073, 4)));
     no_file(&with(alike(64, 1), vec![0; 4]));
     no_file(&with(alike(64, 1), vec![]));
     // The longest records of the kinds.

@@ -181,7 +181,14 @@ fn refusal_10_rooms() {
     for (length, expected) in [(0, 10), (1, 10), (2, 0), (3, 0)] {
         assert_eq!(laid_out(&[(0x031A, length)]), expected, "{length}");
     }
-    for (length, expected) in [(0, 10), (4, 10), (5, 0), (32_773, 0), (32_774, 10)] {
+    for (length, expected) in [
+        (0, 10),
+        (4, 10),
+        (5, 0),
+        (32_774, 0),
+        (131_077, 0),
+        (131_078, 10),
+    ] {
         let rows = [(0x031A, 2), (0x0405, length)];
         assert_eq!(laid_out(&rows), expected, "{length}");
     }
@@ -375,9 +382,8 @@ fn kinds_that_are_new() {
 
 #[test]
 fn the_longest_card() {
-    let room = vec![7; 32_768];
     let mut full = vec![(0x031A, records(&[&[9; 929][..]; 64]))];
-    full.extend((0x0401..=0x0406).map(|kind| (kind, biometrics(1, &room))));
+    full.push((0x0401, biometrics(1, &vec![7; 131_072])));
     let left = LONGEST_IMAGE - card(&full, 0, 0).len() - 6 - 5;
     full.push((0x0440, biometrics(0, &vec![8; left])));
     let old = card(&full, 0, 0);
@@ -456,7 +462,7 @@ impl Random {
                 0 => drop(rows.remove(at)),
                 1 => rows.insert(at, rows[at]),
                 2 => rows[at].0 ^= 1 << self.below(16),
-                3 => rows[at].1 = [0, 1, 4, 32_773, 32_774, 262_138, 262_139][self.below(7)],
+                3 => rows[at].1 = [0, 1, 4, 131_077, 131_078, 262_138, 262_139][self.below(7)],
                 _ => rows.swap(0, at),
             }
         }

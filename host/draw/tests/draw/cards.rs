@@ -89,6 +89,20 @@ pub fn uneven() -> Vec<u8> {
     .concat()
 }
 
+/// A full biometrics file in the largest room, one that has as much room as the image leaves, and a
+/// small one beside them.
+pub fn large() -> Vec<u8> {
+    let biometrics = |state, written, room| make::biometrics(state, written, &vec![9; room]);
+    let largest = make::LARGEST_ROOM;
+    [
+        make::section(0x031A, &make::records(&[[7; 40]])),
+        make::section(0x0401, &biometrics(1, largest, largest)),
+        make::section(0x0402, &biometrics(0, 65_537, 130_000)),
+        make::section(0x0440, &biometrics(0, 9, 16)),
+    ]
+    .concat()
+}
+
 /// Cards of every sort, each with a name.
 pub fn all() -> Vec<(String, Vec<u8>)> {
     let mut cards = vec![
@@ -99,6 +113,7 @@ pub fn all() -> Vec<(String, Vec<u8>)> {
         ("the card to try".to_string(), to_try()),
         ("small".to_string(), small()),
         ("uneven".to_string(), uneven()),
+        ("large".to_string(), large()),
         ("full, short records".to_string(), full(1, 0, 0)),
         ("full".to_string(), full(100, 100, 1_800)),
         ("full, larger biometrics".to_string(), full(20, 3, 3_300)),

@@ -221,6 +221,21 @@ fn the_svg_has_every_shape() {
     }
 }
 
+/// The bars of large files bear their sizes, and the small one beside them is drawn as well.
+#[test]
+fn large_files() {
+    let card = Card::read(&cards::large()).expect("a card");
+    let picture = page::card(&card);
+    let words: Vec<&str> = picture.texts().map(|text| text.words.as_str()).collect();
+    for wanted in ["131,072 bytes written", "65,537 bytes written", "100,000"] {
+        assert!(words.contains(&wanted), "{wanted}: {words:?}");
+    }
+    let small = picture
+        .blocks()
+        .filter(|block| block.of.is_some_and(|of| of.kind == 0x0440));
+    assert_eq!(small.count(), 3);
+}
+
 /// The card to try, and its move in `docs/MOVE.md`.
 #[test]
 fn the_pictures_in_the_documents_are_current() {

@@ -1,6 +1,7 @@
 //! The conversation with the reader, whose part the tests play over a connection of their own.
 
 use crate::mock::{append, folder, travel_card, Reader, Slot, SELECT};
+use compare::make::{self, LARGEST_ROOM};
 use compare::talk::{Talk, Turn};
 use reader::atr::ATR;
 use reader::card::Card;
@@ -241,6 +242,40 @@ fn a_reader_that_goes_before_it_reads_the_answer() {
     let ended = with_card("gone", &travel_card(40), &ALL_RIGHTS, |mut reader, _| {
         reader.tell(&SELECT);
         reader.tell(&append(&[7]));
+    });
+    assert_eq!(ended, Ok(()));
+}
+
+/// Biometrics 1 in the largest room, full.
+fn largest_file() -> Vec<u8> {
+    let content: Vec<u8> = (0..LARGEST_ROOM).map(|at| (at ^ at >> 8) as u8).collect();
+    let file = make::section(0x0401, &make::biometrics(0, LARGEST_ROOM, &content));
+    [make::section(0x031A, &[0; 2]), file].concat()
+}
+
+/// READ BINARY B1 and UPDATE BINARY at the end of the largest file, which only three bytes reach.
+#[test]
+fn the_end_of_the_largest_file() {
+    let image = largest_file();
+    let ended = with_card("largest", &image, &ALL_RIGHTS, |mut reader, name| {
+        assert_eq!(reader.ask(&bytes("00A4040C07A0000002472003")), [0x90, 0x00]);
+        let longest = reader.ask(&bytes("00B10201000005540301F8040000"));
+        let wanted = [
+            &[0x53, 0x82, 0x07, 0xFC],
+            &image[image.len() - 2_044..],
+            &[0x90, 0x00],
+        ];
+        assert_eq!(longest, wanted.concat());
+        assert_eq!(
+            reader.ask(&bytes("00D7000008540301FFFF5301A5")),
+            [0x90, 0x00]
+        );
+        assert_eq!(
+            reader.ask(&bytes("00B1000005540301FFFF00")),
+            bytes("5301A59000")
+        );
+        let kept = fs::read(name).expect("the card's file");
+        assert_eq!((kept.len(), kept.last()), (image.len(), Some(&0xA5)));
     });
     assert_eq!(ended, Ok(()));
 }
