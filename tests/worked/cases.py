@@ -1,9 +1,9 @@
 #!/usr/bin/env python3
 """Makes what the program `test_worked` is run on, and what it must write: crates/test_worked/stdin and stdout.
 
-The cases are the card to try of docs/RULES.md, and searches by every byte. The answers to the card are the ones that its source prints,
-those to the other searches follow clause Q4; the bytes of an image and of a reply are built here, from the rules of the card image and
-of SEARCH RECORD. Nothing is taken from the program.
+The cases are the card to try of docs/RULES.md, searches by every byte, and READ BINARY B1 at its edges. The answers to the card are the ones
+that its source prints, those to the other searches follow clause Q4, those to B1 clauses Y7 to Y11 and T5; the bytes of an image and of a
+reply are built here, from the rules of the card image, of SEARCH RECORD and of READ BINARY. Nothing is taken from the program.
 
 usage: python3 tests/worked/cases.py [--count]     (the same cases each time; --count says how many calls there are)
 """
@@ -176,6 +176,62 @@ def biometrics_card():
     look(image(1, bytes.fromhex("AABBAABB")))
 
 
+# Ne of READ BINARY B1, and how many bytes of the file its reply then has: clause T5
+FITS = [(3, 1), (4, 2), (129, 127), (130, 127), (131, 128), (132, 129), (255, 252), (256, 253), (258, 255), (259, 255), (260, 256), (261, 257), (2047, 2043), (2048, 2044),
+        (2049, 2044), (65535, 2044), (65536, 2044)]
+CONTENT = bytes((7 * i + i // 256) % 256 for i in range(2100))
+
+
+def odd(p1p2, data, ne):
+    """READ BINARY B1 with an extended Le."""
+    return f"00B1{p1p2}00{len(data) // 2:04X}{data}{ne % 65536:04X}"
+
+
+def wrapped(content):
+    """`53` with the length in its one form, and the bytes."""
+    n = len(content)
+    length = bytes([n]) if n < 128 else bytes([0x81, n]) if n < 256 else bytes([0x82]) + n.to_bytes(2, "big")
+    return (b"\x53" + length + content).hex()
+
+
+def wrapped_reads():
+    def image(written):
+        return section(0x031A, records(40)) + section(0x0401, biometrics(0, CONTENT, 2100)) + section(0x0402, biometrics(0, written, 9))
+
+    card(image(b""))
+    call(odd("0000", "540100", 256), "6986")                                     # no current file
+    call(odd("0201", "540100", 256), "6A82")                                     # the application is not selected
+    call(odd("2F01", "54010E", 256), "9000", wrapped(bytes.fromhex("0802")))     # the end of EF.ATR/INFO
+    call("00B12F01035401005C", "9000", wrapped(bytes.fromhex("47038601607F66080202040002020802")))
+    call(SELECT_BIOMETRICS, "9000")
+    call(odd("011A", "540100", 256), "6981")
+    call(odd("0203", "540100", 256), "6A82")
+    call(odd("0202", "540100", 256), "6B00")                                     # nothing is written there
+    call(odd("0201", "540100", 2), "6700")
+    call(odd("0201", "54020834", 2), "6B00")                                     # 6B00 comes first
+    for ne, n in FITS:
+        assert len(wrapped(CONTENT[:n])) // 2 <= min(ne, 2048) < len(wrapped(CONTENT[:n + 1])) // 2
+        call(odd("0201", "540100", ne), "9000", wrapped(CONTENT[:n]))
+    call("00B10000035401070300", "6700")                                         # a byte behind Le
+    call("00B100000354010703", "9000", wrapped(CONTENT[7:8]))                     # short Le; 0201 is the current file now
+    call("00B100000354010700", "9000", wrapped(CONTENT[7:260]))                   # 256
+    for offset, data in [(7, "540107"), (7, "54020007"), (7, "5403000007"), (300, "5402012C"), (300, "540300012C"), (2099, "54020833"), (2099, "5403000833")]:
+        call(odd("0201", data, 65536), "9000", wrapped(CONTENT[offset:offset + 2044]))
+    for data in ("54020834", "5403000834", "5403010000", "5403FFFFFF"):
+        call(odd("0201", data, 65536), "6B00")
+    for data in ("5400", "540400000007", "54810107", "530107", "540107530100", "5401075401", "5402FF"):
+        call(odd("0201", data, 65536), "6A80")
+    call("00B10201", "6700")                                                     # neither Lc nor Le
+    call("00B1020100", "6700")                                                   # no Lc
+    call("00B1020103540107", "6700")                                             # no Le
+    call("00B0083300", "9000", CONTENT[2099:].hex())                              # B0 reads the same byte
+    call("00D702020A540300000053020102", "6700")                                 # one byte more than Lc says
+    call("00D7020209540300000053020102", "9000")                                 # UPDATE BINARY with an offset of three bytes
+    call(odd("0000", "540100", 4), "9000", wrapped(bytes([1, 2])))
+    call("00D702020A54040000000253020102", "6A80")                               # and with one of four
+    look(image(bytes([1, 2])))
+
+
 def refusals():
     """An image that is no card's: a torn section, a record of no bytes, an application that is not whole."""
     whole = travel(40)
@@ -193,6 +249,7 @@ def main():
     many_matches()
     every_byte()
     biometrics_card()
+    wrapped_reads()
     refusals()
     if "--count" in sys.argv:
         print(f"{len(stdout)} lines, {sum(not l.startswith('image') for l in stdout)} of them calls, {len(stdin)} bytes of input")

@@ -382,29 +382,24 @@ fn written_to_its_end() -> Vec<Line> {
     lines
 }
 
-/// That file, read back as a whole by B1, and by B0 as far as that reaches. This is too long for a
-/// sample.
-pub fn all_of_the_largest() -> Vec<Line> {
-    let mut lines = written_to_its_end();
-    lines.extend(parts(PORTION).map(|(offset, n)| reads(0x0000, offset, 65_536, n)));
-    lines.push(fails(0x0000, LARGEST_ROOM, 65_536, "6b00"));
-    let plain = |offset| b0(offset, 0, &plain(offset, 2_048));
-    lines.extend((0..0x8000).step_by(2_048).map(plain));
-    lines.push(plain(0x7FFF));
-    lines
+/// That file, read back as a whole by B1, and by B0 as far as that reaches.
+fn read_back() -> Vec<Line> {
+    let wrapped = parts(PORTION).map(|(offset, n)| reads(0x0000, offset, 65_536, n));
+    let offsets = (0..0x8000).step_by(2_048).chain([0x7FFF]);
+    wrapped
+        .chain(offsets.map(|offset| b0(offset, 0, &plain(offset, 2_048))))
+        .collect()
 }
 
-/// The largest file, read where an offset needs one bit more than the one before or one byte, at its
-/// end, and in between; and written there anew.
+/// The largest file, read back as a whole, read where an offset needs one bit more than the one
+/// before or one byte, and at its end; and written there anew.
 fn the_largest_file() -> Vec<Line> {
     let last = LARGEST_ROOM - 1;
     let border = |border| [border - 1, border, border + 1].map(|at| reads(0x0000, at, 6, 4));
     let mut lines = written_to_its_end();
+    lines.extend(read_back());
     lines.extend([0x100, 0x8000, 0x1_0000].map(border).concat());
-    lines.extend(parts(16_384).map(|(at, _)| reads(0x0000, at, 65_536, PORTION)));
     lines.extend([
-        b0(0, 0, &plain(0, 2_048)),
-        b0(0x7FFF, 0, &plain(0x7FFF, 2_048)),
         reads(0x0000, 0x7FFF, 65_536, PORTION),
         reads(0x0000, last, 65_536, 1),
         fails(0x0000, last, 2, "6700"),

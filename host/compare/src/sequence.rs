@@ -1,7 +1,6 @@
 //! The calls of a run, in sequences on one card each. A sequence goes on from what its own
 //! commands left.
 
-use crate::binary_scene;
 use crate::card::{self, Size};
 use crate::certificates;
 use crate::command;
@@ -93,11 +92,7 @@ impl Sequence {
     }
 
     fn scene(random: Random, size: Size) -> Self {
-        let mut lines = scene::lines();
-        if size == Size::Any {
-            lines.extend(binary_scene::all_of_the_largest());
-        }
-        let steps = lines.into_iter().map(|(step, _)| step).collect();
+        let steps = scene::lines().into_iter().map(|(step, _)| step).collect();
         Self::of_steps(random, size, steps)
     }
 

@@ -536,7 +536,6 @@ fn ends_as_it_says(lines: Vec<Line>) {
 #[test]
 fn the_scenes_end_as_they_say() {
     ends_as_it_says(binary_scene::lines());
-    ends_as_it_says(binary_scene::all_of_the_largest());
 }
 
 /// The scene of the sample shows each wrong machine but one: it has no card with a room that is too
