@@ -24,6 +24,7 @@ WORDS = {
     "6A82": "File or application not found",
     "6A83": "Record not found",
     "6A84": "Not enough memory space in the file",
+    "6B00": "Wrong offset, at or past the end of the file",
     "6E00": "Class not supported",
 }
 
@@ -326,6 +327,24 @@ def moves(c):
     c.says("show", *shown_moved(ROOMS))
 
 
+def binary(c):
+    """READ BINARY in both forms, on EF.ATR/INFO; a card with the largest file that there is, and one with a byte more."""
+    c.command("00 A4 00 0C 02 3F 00", "9000")
+    c.command("00 B0 81 0E 00", "08029000")
+    c.command("00 B1 2F 01 03 54 01 0E 00", "530208029000")
+    c.command("00 B1 00 00 05 54 03 00 00 0E 03    # one byte, by an offset of three", "5301089000")
+    c.command("00 B1 00 00 03 54 01 10 00", "6B00")
+    c.command("00 B1 00 00 03 54 01 0E 02", "6700")
+    c.says("session", "= session: master file, EF.ATR/INFO")
+    rooms = (40, 5, 40)
+    lines = shown_moved(rooms)
+    lines[0] = f"card image of {sum(6 + n for n in (*rooms, 40, 131077))} bytes"
+    c.says("move iris.card 0101 40 0102 5 011A 40 031A 40 0401 131077", MOVED, *lines, " biometrics",
+           "  biometrics certificates records 0 of 64, bytes left 38", "  Biometrics 1 Deactivated, bytes written 0 of 131072:")
+    c.says("move other.card 0101 40 0102 5 011A 40 031A 40 0401 131078", "! refused (10): these rooms make no well-formed card")
+    c.command("00 A4 04 0C 07 A0 00 00 02 47 20 01", "9000")
+
+
 def certificates(c):
     """The certificate that a reference names: on the card, in the copy, in neither; what cannot be asked."""
     missing = " is missing: it is not on the card"
@@ -457,6 +476,7 @@ def cases():
     c.says("help", *HELP)
     long_input(c)
     moves(c)
+    binary(c)
     certificates(c)
     stamps(c)
     # a last line that does not end
