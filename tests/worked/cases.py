@@ -177,8 +177,8 @@ def biometrics_card():
 
 
 # Ne of READ BINARY B1, and how many bytes of the file its reply then has: clause T5
-FITS = [(3, 1), (4, 2), (129, 127), (130, 127), (131, 128), (132, 129), (255, 252), (256, 253), (258, 255), (259, 255), (260, 256), (261, 257), (2047, 2043), (2048, 2044),
-        (2049, 2044), (65535, 2044), (65536, 2044)]
+FITS = [(3, 1), (4, 2), (129, 127), (130, 127), (131, 128), (132, 129), (255, 252), (256, 253), (258, 255), (259, 255), (260, 256), (261, 257),
+        (2047, 2043), (2048, 2044), (2049, 2044), (65535, 2044), (65536, 2044)]
 CONTENT = bytes((7 * i + i // 256) % 256 for i in range(2100))
 
 
@@ -224,8 +224,10 @@ def wrapped_reads():
     call("00B10201", "6700")                                                     # neither Lc nor Le
     call("00B1020100", "6700")                                                   # no Lc
     call("00B1020103540107", "6700")                                             # no Le
+    call("00B1020303530107", "6700")                                             # no Le, before wrong data and a file that is not there
+    call("00B1020300", "6700")                                                   # no Lc, before a file that is not there
     call("00B0083300", "9000", CONTENT[2099:].hex())                              # B0 reads the same byte
-    call("00D702020A540300000053020102", "6700")                                 # one byte more than Lc says
+    call("00D702020A540300000053020102", "6700")                                 # Lc says one byte more than there is
     call("00D7020209540300000053020102", "9000")                                 # UPDATE BINARY with an offset of three bytes
     call(odd("0000", "540100", 4), "9000", wrapped(bytes([1, 2])))
     call("00D702020A54040000000253020102", "6A80")                               # and with one of four

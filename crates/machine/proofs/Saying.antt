@@ -1,5 +1,5 @@
 -- A status word behind its data. Read machine_answer's specs/Outcome.antt before. Exports `said`, `stored`, `stored-records`, `stored-object`,
--- `same-report`, `same-answer`, `same-file`.
+-- `object-end`, `same-report`, `same-answer`, `same-file`.
 use Prim.Native.Nat.{ℕ, _+_, _≤_, _<_}
 use mathlib.Core.Path.{_≡_, sym, ap, ap₂, _∙_}
 use mathlib.Core.Bool.{false}
@@ -11,13 +11,14 @@ use lib.Seq.{sets}
 use lib.Dec.{ltb}
 use borrow.Author.Tests.{le-ltb}
 use Rattle.base.specs.Choice.{ifElse}
-use Rattle.base.specs.Bytes.{put}
+use Rattle.base.specs.Bytes.{part, put}
+use Rattle.base.proofs.Parts.{length-part}
 use Rattle.base.proofs.Runs.{putFits-accepted, put-accepted, put-behind}
 use Rattle.objects_writer.specs.Writing.{tlv}
 use Rattle.objects_writer.specs.Writer.{headBytes, putEnd}
 use Rattle.objects_writer.specs.Fitting.{objectLength}
 use Rattle.objects_writer.proofs.Writings.{putEnd-accepted, headBytes-value, put-tlv}
-use Rattle.objects_writer.proofs.Fitting.{objectLength-tlv}
+use Rattle.objects_writer.proofs.Fitting.{length-tlv-part}
 use Rattle.machine_reply_record.specs.Joined.{recordsData}
 use Rattle.machine_reply_fmm.specs.Report.{reportData}
 use Rattle.machine_reply_record.proofs.Joining.{records-bound}
@@ -57,19 +58,28 @@ stored-records buf rs rs′ a b s r e =
     let bytes = rw t at e .1 in
     (n ∙ ap length d, bytes ∙ ap (sets buf 0) d ∙ sym (put-accepted buf 0 (recordsData rs′ a b) (omega (arith, records-bound rs′ a b))))
 
--- so does one that stores an object: its head, and behind that its value
-pub stored-object : (buf v : List ℕ) (tag n : ℕ) {at : ℕ} {mid new : List ℕ} → tag < 256 → length v ≡ n → objectLength n ≤ 2048 → 2050 ≤ length buf
-    → (at ≡ putEnd buf 0 (headBytes tag n)) × (mid ≡ put buf 0 (headBytes tag n)) → new ≡ put mid at v
-    → (at + n ≡ length (tlv tag v)) × (new ≡ put buf 0 (tlv tag v))
-unfolding objectLength
-stored-object buf v tag n {at} {mid} {new} p e h r w z =
-    let a = headBytes tag (length v) in
-    let l : length a + length v ≡ length (tlv tag v) = sym (length-append a v) ∙ ap length (headBytes-value tag v (omega arith) (omega arith)) in
-    let q : length (tlv tag v) ≤ 2048 = rw (objectLength-tlv tag v p, e) h in
-    let f : (at ≡ putEnd buf 0 a) × (mid ≡ put buf 0 a) = rw e w in (
-      omega (arith, f .0, putEnd-accepted buf 0 a (putFits-accepted buf 0 a (omega arith))),
-      z ∙ ap₂ (λ (l : List ℕ) (k : ℕ). put l k v) (f .1) (f .0) ∙ put-tlv buf 0 tag v (omega arith) (omega arith) (omega arith),
-    )
+-- so does one that stores an object, its head and behind that its value: n bytes of xs from a on
+module _ (buf xs : List ℕ) (a n tag : ℕ) (p : tag < 256) (h : objectLength n ≤ 2048) (i : a + n ≤ length xs) (r : 2050 ≤ length buf) where
+  abbrev value : List ℕ
+  value = part xs a n
+
+  pub object-short : length (tlv tag value) ≤ 2048
+  object-short = rw (length-tlv-part tag xs a n p i) h
+
+  module _ {at : ℕ} {mid new : List ℕ} (w : (at ≡ putEnd buf 0 (headBytes tag n)) × (mid ≡ put buf 0 (headBytes tag n))) (z : new ≡ put mid at value) where
+    pub stored-object : (at + n ≡ length (tlv tag value)) × (new ≡ put buf 0 (tlv tag value))
+    unfolding objectLength
+    stored-object =
+        let l : length value ≡ n = length-part xs a n i in
+        let b = headBytes tag (length value) in
+        let q : length b + length value ≡ length (tlv tag value) = sym (length-append b value) ∙ ap length (headBytes-value tag value (omega arith) (omega arith)) in
+        let f : (at ≡ putEnd buf 0 b) × (mid ≡ put buf 0 b) = rw l w in (
+          omega (arith, f .0, object-short, putEnd-accepted buf 0 b (putFits-accepted buf 0 b (omega (arith, object-short)))),
+          z ∙ ap₂ (λ (x : List ℕ) (k : ℕ). put x k value) (f .1) (f .0) ∙ put-tlv buf 0 tag value (omega arith) (omega arith) (omega (arith, object-short)),
+        )
+
+    pub object-end : at + n ≤ 2048
+    object-end = omega (arith, stored-object .0, object-short)
 
 -- the same numbers, the same report
 pub same-report : (p2 : ℕ) {t r e t′ r′ e′ : ℕ} → t ≡ t′ → r ≡ r′ → e ≡ e′ → reportData p2 t r e ≡ reportData p2 t′ r′ e′

@@ -25,6 +25,7 @@ pub enum Action {
     SearchRecord(Rule, Search, usize),
     // the numbers that P2 asks for
     Report(File, usize),
-    // READ BINARY with the odd INS: offset, how many bytes of the file; the reply is an object
+    // READ BINARY with the odd INS: offset, how many bytes of the file; the reply is an object. (It stands last, since proofs count the
+    // variants.)
     ReadBinaryOdd(Transparent, usize, usize),
 }

@@ -18,8 +18,8 @@ use Rattle.machine_action.specs.Tests.{lcAndLe, p1p2, idOrCurrent, onTransparen
 use Rattle.machine_action.specs.declared.Action.{Action}
 use Rattle.machine_action.specs.declared.Action.the-variants.{Status, ReadBinaryOdd}
 
--- step 10: the offset stands before the file's end, and the reply has room for a byte of the file; as many bytes as the file has and a reply
--- of at most Ne and at most 2,048 bytes can hold [Y9] [Y10]
+-- step 10: the offset stands before the file's end, and Ne has room for one byte in an object. Returned are as many bytes as there are from the
+-- offset on, but no more than an object of at most Ne and at most 2,048 bytes holds [Y9] [Y10]
 unfoldable pub readOddOn : List ℕ → ℕ → ℕ → Transparent → Action
 readOddOn img offset ne t =
     inOrder

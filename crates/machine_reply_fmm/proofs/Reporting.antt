@@ -2,15 +2,15 @@
 -- number (`asked-…`), those of the whole (`report-…`), and `report-bound`: every report is short enough for a response.
 use Prim.Native.Nat.{ℕ, _+_, _/_, _%_, _≤_, _<_}
 use mathlib.Core.Path.{_≡_, refl, sym, ap, _∙_}
-use mathlib.Core.List.{List, [], _++_, append-assoc}
+use mathlib.Core.List.{List, [], _∷_, _++_, append-assoc}
 use native.Mathlib.Omega.{arith}
 use lib.ListN.{length, length-append}
 use lib.Dec.{lit≤, eqb}
 use borrow.Author.Tests.{eq-eqb, ne-eqb, eqb-true, eqb-false}
 use Rattle.base.specs.Bytes.{put}
 use Rattle.base.proofs.Cases.{by-cases}
-use Rattle.objects_writer.specs.Number.{bytesOf, shortest}
-use Rattle.objects_writer.specs.Writing.{tagBytes, tlv}
+use Rattle.objects_writer.specs.Number.{bytesIn, bytesOf, shortest}
+use Rattle.objects_writer.specs.Writing.{tagBytes, lengthBytes, tlv}
 use Rattle.objects_writer.specs.Writer.{headBytes, putEnd}
 use Rattle.objects_writer.proofs.Numbers.{bytesOf-most}
 use Rattle.objects_writer.proofs.Writings.{put-none as nothing, headBytes-value}
@@ -114,6 +114,11 @@ module _ (p2 t r e : ℕ) where
         let w₃ = wrote-after out (H ++ first) second (omega arith) w₂ c in
         let w₄ = wrote-after out (H ++ first ++ second) third (omega arith) w₃ d in
         wrote-all out _ (reportData p2 t r e) report-parts (omega (arith, report-size)) w₄
+
+-- the total of the largest biometrics room has three bytes, computed
+pub largest-total : reportData 1 131072 0 0 ≡ 0x7F ∷ 0x78 ∷ 0x05 ∷ 0x81 ∷ 0x03 ∷ 0x02 ∷ 0x00 ∷ 0x00 ∷ []
+unfolding reportData asked tlv tagBytes lengthBytes shortest bytesOf bytesIn
+largest-total = refl
 
 pub report-short : (p2 t r e : ℕ) → (p2 ≡ 0 → ⊥) → length (reportData p2 t r e) ≤ 33
 report-short p2 t r e some = report-small p2 t r e some _ refl

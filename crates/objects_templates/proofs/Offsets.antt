@@ -1,6 +1,6 @@
 -- The data of READ BINARY with INS B1: what is accepted is the writing of an offset, every such writing is accepted, and it settles the offset. Read
 -- before: specs/OffsetObject.antt. Exports `big-below` (three bytes say less than 2^24), `offset-sound`,
--- `offset-complete`, `offset-unique`, `offset-below`.
+-- `offset-complete`, `offset-unique`, `offset-below`, and two computed examples.
 use Prim.Native.Nat.{ℕ, _≤_, _<_}
 use mathlib.Core.Path.{_≡_, refl, sym, ap, subst, _∙_}
 use mathlib.Core.List.{List, [], _∷_, _++_, append-nil}

@@ -1,7 +1,7 @@
--- The longest value that fits into an object of a given length. Read before: specs/Fitting.antt. Exports `length-tlv-part`,
--- `longestWithin-is` (what fits, and cannot grow, is the longest), and of the longest `longestWithin-most`, `longestWithin-fits`,
--- `longestWithin-longest`, `longestWithin-some`.
-use Prim.Native.Nat.{ℕ, zero, suc, _+_, _≤_, _<_, min}
+-- The longest value that fits into an object of a given length. Read before: specs/Fitting.antt. Exports `objectLength-is`,
+-- `objectLength-tlv`, `length-tlv-part`; `longestWithin-is` (what fits, and cannot grow, is the longest); of the longest `longestWithin-most`,
+-- `longestWithin-fits`, `longestWithin-longest`, `longestWithin-some`; and `borders`.
+use Prim.Native.Nat.{ℕ, zero, suc, _+_, _/_, _≤_, _<_, min}
 use mathlib.Core.Path.{_≡_, refl, ap, _∙_}
 use mathlib.Core.List.{List}
 use native.Mathlib.Omega.{arith}
@@ -17,17 +17,16 @@ use Rattle.objects_writer.proofs.Sizes.{length-lengthBytes-short, lengt
 
 -- ---- how long an object is
 
-module _ (n : ℕ) where
-  -- by the form of the length
-  pub objectLength-ind : (P : ℕ → Type 0) → (n < 0x80 → P (2 + n)) → (0x80 ≤ n → n < 0x100 → P (3 + n)) → (0x100 ≤ n → P (4 + n)) → P (objectLength n)
-  unfolding objectLength
-  objectLength-ind P f g h =
-      by-cases (ltb n 0x80)
-      (λ e. let l = ltb-true n 0x80 e in rw (length-lengthBytes-short n l) (f l))
-      (λ e. let l = ltb-false n 0x80 e in
-      by-cases (ltb n 0x100)
-      (λ d. let m = ltb-true n 0x100 d in rw (length-lengthBytes-one n l m) (g l m))
-      (λ d. let m = ltb-false n 0x100 d in rw (length-lengthBytes-two n m) (h m)))
+-- by the form of the length: one byte, one more from 80 on, and one more from 0100 on
+pub objectLength-is : (n : ℕ) → objectLength n ≡ 2 + n + min 1 (n / 0x80) + min 1 (n / 0x100)
+unfolding objectLength
+objectLength-is n =
+    by-cases (ltb n 0x80)
+    (λ e. let h = ltb-true n 0x80 e in omega (arith, length-lengthBytes-short n h))
+    (λ e. let h = ltb-false n 0x80 e in
+    by-cases (ltb n 0x100)
+    (λ d. let k = ltb-true n 0x100 d in omega (arith, length-lengthBytes-one n h k))
+    (λ d. let k = ltb-false n 0x100 d in omega (arith, length-lengthBytes-two n k)))
 
 -- an object is as long as the bytes that are written of it
 pub objectLength-tlv : (t : ℕ) (v : List ℕ) → t < 256 → length (tlv t v) ≡ objectLength (length v)
@@ -39,15 +38,11 @@ pub length-tlv-part : (t : ℕ) (xs : List ℕ) (a n : ℕ) → t < 256 → a + 
 length-tlv-part t xs a n p h = objectLength-tlv t (part xs a n) p ∙ ap objectLength (length-part xs a n h)
 
 -- a longer value makes a longer object
-grows : (m n : ℕ) → m < n → objectLength m < objectLength n
-grows m n h =
-    objectLength-ind m (λ (x : ℕ). x < objectLength n)
-    (λ a. objectLength-ind n (λ (y : ℕ). 2 + m < y) (λ c. omega arith) (λ c d. omega arith) (λ c. omega arith))
-    (λ a b. objectLength-ind n (λ (y : ℕ). 3 + m < y) (λ c. omega arith) (λ c d. omega arith) (λ c. omega arith))
-    (λ a. objectLength-ind n (λ (y : ℕ). 4 + m < y) (λ c. omega arith) (λ c d. omega arith) (λ c. omega arith))
-
-grows-eq : (m n : ℕ) → m ≤ n → objectLength m ≤ objectLength n
-grows-eq m n h = by-cases (ltb m n) (λ e. omega (arith, grows m n (ltb-true m n e))) (λ e. let s : m ≡ n = omega (arith, ltb-false m n e) in omega (arith, ap objectLength s))
+grows : (m n : ℕ) → m ≤ n → objectLength m ≤ objectLength n
+grows m n h = rw (objectLength-is m, objectLength-is n) (sum (m / 0x80) (n / 0x80) (m / 0x100) (n / 0x100) (omega arith) (omega arith))
+  where
+    sum : (a b c d : ℕ) → a ≤ b → c ≤ d → 2 + m + min 1 a + min 1 c ≤ 2 + n + min 1 b + min 1 d
+    sum a b c d p q = omega arith
 
 -- ---- the longest
 
@@ -58,10 +53,10 @@ longestWithin-is limit k zero f g = omega arith
 longestWithin-is limit k (suc n) f g =
     ifElse-ind (λ (x : ℕ). min (suc n) k ≡ x) (leb (objectLength (suc n)) limit)
     (λ e. let a = leb-true (objectLength (suc n)) limit e in
-    by-cases (leb (suc n) k) (λ d. omega (arith, leb-true (suc n) k d)) (λ d. absurd (omega (arith, grows-eq (suc k) (suc n) (leb-false (suc n) k d)))))
+    by-cases (leb (suc n) k) (λ d. omega (arith, leb-true (suc n) k d)) (λ d. absurd (omega (arith, grows (suc k) (suc n) (leb-false (suc n) k d)))))
     (λ e. let a = leb-false (objectLength (suc n)) limit e in
     by-cases (leb k n) (λ d. omega (arith, leb-true k n d, longestWithin-is limit k n f g))
-    (λ d. let l = leb-false k n d in absurd (omega (arith, f (omega arith), grows-eq (suc n) k l))))
+    (λ d. let l = leb-false k n d in absurd (omega (arith, f (omega arith), grows (suc n) k l))))
 
 module _ (limit : ℕ) where
   pub longestWithin-most : (most : ℕ) → longestWithin limit most ≤ most
@@ -87,16 +82,12 @@ module _ (limit : ℕ) where
       (λ d. let s : suc m ≡ n = omega (arith, leb-false n m d) in let l = leb-false (objectLength (suc m)) limit e in omega (arith, ap objectLength s)))
       p q
 
-  one-byte : objectLength 1 ≡ 3
-  unfolding objectLength lengthBytes
-  one-byte = refl
-
   -- three bytes are enough for one
   pub longestWithin-some : (most : ℕ) → 3 ≤ limit → 1 ≤ most → 1 ≤ longestWithin limit most
   longestWithin-some most h k =
       by-cases (leb 1 (longestWithin limit most)) (λ e. leb-true 1 (longestWithin limit most) e)
       (λ e. let z = leb-false 1 (longestWithin limit most) e in
-      absurd (omega (arith, longestWithin-longest most 1 z k, one-byte)))
+      absurd (omega (arith, longestWithin-longest most 1 z k, objectLength-is 1)))
 
 -- at the borders of the three forms of a length, computed: what fits of 300 bytes
 pub borders : (longestWithin 2 300 ≡ 0) × (longestWithin 3 300 ≡ 1) × (longestWithin 129 300 ≡ 127) × (longestWithin 130 300 ≡ 127) × (longestWithin 131 300 ≡ 128)

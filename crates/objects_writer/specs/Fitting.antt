@@ -1,11 +1,11 @@
--- How much of something fits into one object.
+-- How long a value can be whose object keeps within a limit.
 use Prim.Native.Nat.{ℕ, zero, suc, _+_}
 use lib.ListN.{length}
 use lib.Dec.{leb}
 use Rattle.base.specs.Choice.{ifElse}
 use Rattle.objects_writer.specs.Writing.{lengthBytes}
 
--- how long an object is whose tag has one byte and whose value has n [D1] [D2]
+-- how long an object is whose tag has one byte and whose value has n; right up to 65,535, the most that a length says [D1] [D2]
 unfoldable pub objectLength : ℕ → ℕ
 objectLength n = 1 + length (lengthBytes n) + n
 

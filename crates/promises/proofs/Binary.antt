@@ -1,5 +1,5 @@
--- READ BINARY in its two forms (`both-reads`). Both come to the same file: whatever means it, step 7 looks for it as by its id. From there on the two
--- differ in step 10 alone. Read before: ../specs/Binary.antt.
+-- READ BINARY in its two forms (`both-reads`, `odd-reaches`). Both come to the same file: whatever means it, step 7 looks for it as by its id. From
+-- there on the two differ in step 10 alone. Read before: ../specs/Binary.antt.
 use Prim.Native.Nat.{ℕ, _+_, _-_, _≤_, _<_, min}
 use mathlib.Core.Path.{_≡_, refl, sym, ap, ap₂, subst, _∙_}
 use mathlib.Core.Bool.{true, false}
@@ -8,7 +8,7 @@ use native.Mathlib.Omega.{arith}
 use lib.ListN.{length, take, drop, length-take, length-drop}
 use lib.Seq.{take-take, take-all, length-take-le}
 use lib.Dec.{ltb, leb, eqb}
-use borrow.Author.Tests.{eqb-true, eqb-false, eq-eqb, lt-ltb, le-ltb, le-leb, ltb-true, ltb-false, leb-true, leb-false}
+use borrow.Author.Tests.{eqb-true, eqb-false, eq-eqb, lt-ltb, le-ltb, lt-leb, le-leb, ltb-true, ltb-false, leb-true, leb-false}
 use Rattle.base.specs.Choice.{allOf}
 use Rattle.base.specs.Bytes.{part}
 use Rattle.base.proofs.Cases.{by-cases, allOf-accepted}
@@ -37,16 +37,16 @@ use Rattle.machine_action.specs.declared.Action.the-variants.{Status, ReadBinar
 use Rattle.machine_binary.specs.ReadBinary.{namesCurrent, p1Fits, readNamed, readOffset, readBinaryOn, readBinary}
 use Rattle.machine_binary.specs.ReadBinaryOdd.{readOddOn, readOddBy, readBinaryOdd}
 use Rattle.machine_binary.proofs.OddReading.{oddCount, odd-bounds}
-use Rattle.machine_dispatch.specs.Decide.{byIns, byClass, decide, dataOf}
+use Rattle.machine_dispatch.specs.Decide.{decide, dataOf}
 use Rattle.machine_answer.specs.Outcome.{Outcome, says}
 use Rattle.machine.specs.Effects.{done}
 use Rattle.machine.specs.Step.{step}
-use Rattle.promises.specs.Files.{isMeant}
+use Rattle.promises.specs.Files.{isMeant, Inspected}
 use Rattle.promises.specs.Promises.{dataIn}
-use Rattle.promises.specs.Binary.{EvenRead, OddRead, SameRead, Both-reads}
-use Rattle.promises.proofs.Answering.{data-said, step-accepted, taken-accepted, accepted-room}
-use Rattle.promises.proofs.Naming.{byItsId, meant-by-id}
-use Rattle.promises.proofs.Deciding.{pair-facts, class-decided}
+use Rattle.promises.specs.Binary.{EvenRead, OddRead, SameRead, Both-reads, OddAnswered, Odd-reaches}
+use Rattle.promises.proofs.Answering.{data-said, step-accepted, taken-accepted, accepted-facts, accepted-room}
+use Rattle.promises.proofs.Naming.{byItsId, meant-by-id, inspected-resolved}
+use Rattle.promises.proofs.Deciding.{even-led, odd-led}
 use Rattle.promises.proofs.Doing.{read-named, id-or-current}
 
 -- two fronts of a list agree up to the shorter
@@ -61,6 +61,10 @@ fronts l m n h k =
 
 -- ---- step 10
 
+-- how many bytes B0 returns
+abbrev evenCount : List ℕ → ℕ → ℕ → Transparent → ℕ
+evenCount img offset ne t = min ne (min 2048 (length (fileBytes img t) - offset))
+
 module _ (img : List ℕ) (s : Session) (offset nf ng : ℕ) (d e buf other : List ℕ) (room : 2050 ≤ length buf) (space : 2050 ≤ length other) where
   abbrev Same : Action → Action → Type 0
   Same x y = SameRead ng (done x img s d buf) (done y img s e other)
@@ -71,7 +75,7 @@ module _ (img : List ℕ) (s : Session) (offset nf ng : ℕ) (d e buf other : Li
   stopped w h = let l = ltb-true w 0x9000 h in record {
     status = λ _. refl;
     too-short = λ _ z. absurd (omega (arith, z));
-    refused = λ _. refl;
+    other-word = λ _. refl;
     bytes = λ z. absurd (omega (arith, z));
     session = λ z. absurd (omega (arith, z));
     image = refl;
@@ -83,7 +87,7 @@ module _ (img : List ℕ) (s : Session) (offset nf ng : ℕ) (d e buf other : Li
   small t n h = record {
     status = λ k. absurd (omega arith);
     too-short = λ _ _. refl;
-    refused = λ z. absurd (z refl);
+    other-word = λ z. absurd (z refl);
     bytes = λ z. absurd (omega (arith, z));
     session = λ z. absurd (omega (arith, z));
     image = refl;
@@ -101,7 +105,7 @@ module _ (img : List ℕ) (s : Session) (offset nf ng : ℕ) (d e buf other : Li
       record {
         status = λ _. refl;
         too-short = λ z. absurd (omega arith);
-        refused = λ z. absurd (z refl);
+        other-word = λ z. absurd (z refl);
         bytes = λ _. (
           part fb offset m,
           p,
@@ -118,18 +122,27 @@ module _ (img : List ℕ) (s : Session) (offset nf ng : ℕ) (d e buf other : Li
       by-cases (ltb offset (length (fileBytes img t)))
       (λ a. simp a (by-cases (leb 3 ng)
       (λ b. simp b (let k = odd-bounds img offset ng t a b in let l = ltb-true offset (length (fileBytes img t)) a in
-      read t (oddCount img offset ng t) (min nf (min 2048 (length (fileBytes img t) - offset))) (omega arith) (k .short) (omega arith) (k .inside) (leb-true 3 ng b)))
-      (λ b. simp b (small t (min nf (min 2048 (length (fileBytes img t) - offset))) (leb-false 3 ng b)))))
+      read t (oddCount img offset ng t) (evenCount img offset nf t) (omega arith) (k .short) (omega arith) (k .inside) (leb-true 3 ng b)))
+      (λ b. simp b (small t (evenCount img offset nf t) (leb-false 3 ng b)))))
       (λ a. simp a (stopped 0x6B00 refl))
 
   onward : (x : ResolvedTransparent) → TransparentOk img s x → Same (onTransparent x (readBinaryOn img offset nf)) (onTransparent x (readOddOn img offset ng))
   onward (TransparentStop w) h = stopped w h
   onward (TransparentAt t) h = on t
 
+-- B1 on a file, by its size
+answered : (img : List ℕ) (s : Session) (t : Transparent) (offset ne : ℕ) (d buf : List ℕ) → OddAnswered img t offset ne (done (readOddOn img offset ne t) img s d buf)
+unfolding readOddOn inOrder done says
+answered img s t offset ne d buf = record {
+  past-end = λ h. simp (le-ltb offset (length (fileBytes img t)) h);
+  no-room = λ h k. simp (lt-ltb offset (length (fileBytes img t)) h, lt-leb 3 ne k);
+  read = λ h k. simp (lt-ltb offset (length (fileBytes img t)) h, le-leb 3 ne k);
+}
+
 -- ---- steps 1 to 9
 
-module _ (img : List ℕ) (s : Session) (cmd : List ℕ) (f : Frame) (t : Transparent) (offset : ℕ) where
-  -- what steps 7 to 9 answer, by the file's id
+-- what steps 7 to 9 answer, by the file's id
+module _ (img : List ℕ) (s : Session) (t : Transparent) where
   abbrev answer : ResolvedTransparent
   answer = transparentBy img s (byItsId img s t)
 
@@ -137,57 +150,69 @@ module _ (img : List ℕ) (s : Session) (cmd : List ℕ) (f : Frame) (t : Transp
   unfolding resolveTransparent
   resolved n h = ap (transparentBy img s) (meant-by-id img s t n h)
 
-  -- B0
-  module _ (r : EvenRead s cmd f t offset) where
-    even-named : (isMeant s (readNamed f) (TransparentFile t) ≡ true) × (offset ≡ readOffset f) × (p1Fits (f .header .p1) ≡ true)
-    unfolding p1Fits namesCurrent
-    even-named =
-        by-cases (ltb (f .header .p1) 0x80)
-        (λ e. let h = ltb-true (f .header .p1) 0x80 e in let q = read-named f .0 h in let k = r .of-current h in
-        (rw (q .0) (k .0), k .1 ∙ sym (q .1), simp e))
-        (λ e. let h = ltb-false (f .header .p1) 0x80 e in let q = read-named f .1 h in let k = r .of-short h in
-        (rw (q .0) (k .1), k .2 ∙ sym (q .1), simp (e, eq-eqb _ _ (k .0))))
+-- B0
+module _ (img : List ℕ) (s : Session) (cmd : List ℕ) (f : Frame) (t : Transparent) (offset : ℕ) (r : EvenRead s cmd f t offset) where
+  even-named : (isMeant s (readNamed f) (TransparentFile t) ≡ true) × (offset ≡ readOffset f) × (p1Fits (f .header .p1) ≡ true)
+  unfolding p1Fits namesCurrent
+  even-named =
+      by-cases (ltb (f .header .p1) 0x80)
+      (λ e. let h = ltb-true (f .header .p1) 0x80 e in let q = read-named f .0 h in let k = r .of-current h in
+      (rw (q .0) (k .0), k .1 ∙ sym (q .1), simp e))
+      (λ e. let h = ltb-false (f .header .p1) 0x80 e in let q = read-named f .1 h in let k = r .of-short h in
+      (rw (q .0) (k .1), k .2 ∙ sym (q .1), simp (e, eq-eqb _ _ (k .0))))
 
-    even-lengths : leOnly f ≡ true
-    unfolding leOnly
-    even-lengths = allOf-accepted _ (eq-eqb (f .lc) 0 (r .no-lc), (le-leb 1 (f .le) (r .le), tt))
+  even-lengths : leOnly f ≡ true
+  unfolding leOnly
+  even-lengths = allOf-accepted _ (eq-eqb (f .lc) 0 (r .no-lc), (le-leb 1 (f .le) (r .le), tt))
 
-    pub even-decided : decide img s cmd ≡ onTransparent answer (readBinaryOn img offset (f .ne))
-    even-decided =
-        let p = pair-facts f 0x00 0xB0 (r .pair) in
-        let n = even-named in
-        let led : byClass img s f (dataOf cmd) ≡ readBinary img s f = unfold byClass byIns in simp (p .0, p .1) in
-        let on : readBinary img s f ≡ onTransparent answer (readBinaryOn img offset (f .ne)) = unfold readBinary inOrder in simp (n .2, even-lengths, resolved (readNamed f) (n .0), n .1) in
-        class-decided cmd f (r .shape) img s ∙ led ∙ on
+  even-decided : decide img s cmd ≡ onTransparent (answer img s t) (readBinaryOn img offset (f .ne))
+  unfolding readBinary inOrder
+  even-decided =
+      let n = even-named in
+      even-led cmd f (r .shape) img s (r .pair) ∙ simp (n .2, even-lengths, resolved img s t (readNamed f) (n .0), n .1)
 
-  -- B1
-  module _ (r : OddRead s cmd f t offset) where
-    odd-named : isMeant s (idOrCurrent (p1p2 f)) (TransparentFile t) ≡ true
-    odd-named =
-        by-cases (eqb (p1p2 f) 0)
-        (λ e. let h = eqb-true (p1p2 f) 0 e in rw (id-or-current (p1p2 f) .0 h) (r .of-current h))
-        (λ e. let h = eqb-false (p1p2 f) 0 e in rw (id-or-current (p1p2 f) .1 h) (r .of-id h))
+-- B1
+module _ (img : List ℕ) (s : Session) (cmd : List ℕ) (f : Frame) (t : Transparent) (offset : ℕ) (r : OddRead s cmd f t offset) where
+  odd-named : isMeant s (idOrCurrent (p1p2 f)) (TransparentFile t) ≡ true
+  odd-named =
+      by-cases (eqb (p1p2 f) 0)
+      (λ e. let h = eqb-true (p1p2 f) 0 e in rw (id-or-current (p1p2 f) .0 h) (r .of-current h))
+      (λ e. let h = eqb-false (p1p2 f) 0 e in rw (id-or-current (p1p2 f) .1 h) (r .of-id h))
 
-    -- the data says the offset
-    odd-offset : readOffsetObject (dataOf cmd) ≡ Offset offset
-    odd-offset = let x = offset-complete (r .value) (r .size) in ap readOffsetObject (r .asks) ∙ x .1 ∙ ap Offset (x .2 .offset-is ∙ r .is)
+  -- the data says the offset
+  odd-offset : readOffsetObject (dataOf cmd) ≡ Offset offset
+  odd-offset = let x = offset-complete (r .value) (r .size) in ap readOffsetObject (r .asks) ∙ x .1 ∙ ap Offset (x .2 .offset-is ∙ sym (r .offset-is))
 
-    odd-lengths : lcAndLe f ≡ true
-    unfolding lcAndLe
-    odd-lengths = allOf-accepted _ (le-leb 1 (f .lc) (r .lc), (le-leb 1 (f .le) (r .le), tt))
+  odd-lengths : lcAndLe f ≡ true
+  unfolding lcAndLe
+  odd-lengths = allOf-accepted _ (le-leb 1 (f .lc) (r .lc), (le-leb 1 (f .le) (r .le), tt))
 
-    pub odd-decided : decide img s cmd ≡ onTransparent answer (readOddOn img offset (f .ne))
-    odd-decided =
-        let p = pair-facts f 0x00 0xB1 (r .pair) in
-        let led : byClass img s f (dataOf cmd) ≡ readBinaryOdd img s f (dataOf cmd) = unfold byClass byIns in simp (p .0, p .1) in
-        let on : readBinaryOdd img s f (dataOf cmd) ≡ onTransparent answer (readOddOn img offset (f .ne)) = unfold readBinaryOdd inOrder in simp (odd-lengths, odd-offset, resolved (idOrCurrent (p1p2 f)) odd-named) in
-        class-decided cmd f (r .shape) img s ∙ led ∙ on
+  odd-decided : decide img s cmd ≡ onTransparent (resolveTransparent img s (idOrCurrent (p1p2 f))) (readOddOn img offset (f .ne))
+  unfolding readBinaryOdd inOrder
+  odd-decided = odd-led cmd f (r .shape) img s (r .pair) ∙ simp (odd-lengths, odd-offset)
+
+-- ---- the promises
 
 pub both-reads : Both-reads
 both-reads img s even odd buf other f g t offset v w x y =
     let a = taken-accepted img s even buf v in
     let b = taken-accepted img s odd other w in
-    let o : step img s even buf ≡ _ = step-accepted img s even buf a ∙ ap (λ (z : Action). done z img s (dataOf even) buf) (even-decided img s even f t offset x) in
-    let p : step img s odd other ≡ _ = step-accepted img s odd other b ∙ ap (λ (z : Action). done z img s (dataOf odd) other) (odd-decided img s odd g t offset y) in
-    let k = subst (TransparentOk img s) (resolved img s even f t offset _ (even-named img s even f t offset x .0)) (resolveTransparent-wellFormed img s (readNamed f)) in
-    rw (o, p) (onward img s offset (f .ne) (g .ne) (dataOf even) (dataOf odd) buf other (accepted-room img s buf a) (accepted-room img s other b) (transparentBy img s (byItsId img s t)) k)
+    let z = answer img s t in
+    let o : step img s even buf ≡ done (onTransparent z (readBinaryOn img offset (f .ne))) img s (dataOf even) buf =
+    step-accepted img s even buf a ∙ ap (λ (q : Action). done q img s (dataOf even) buf) (even-decided img s even f t offset x) in
+    let p : step img s odd other ≡ done (onTransparent z (readOddOn img offset (g .ne))) img s (dataOf odd) other =
+    step-accepted img s odd other b
+    ∙ ap (λ (q : Action). done q img s (dataOf odd) other) (odd-decided img s odd g t offset y)
+    ∙ ap (λ (q : ResolvedTransparent). done (onTransparent q (readOddOn img offset (g .ne))) img s (dataOf odd) other) (resolved img s t _ (odd-named img s odd g t offset y)) in
+    let k = subst (TransparentOk img s) (resolved img s t (readNamed f) (even-named img s even f t offset x .0)) (resolveTransparent-wellFormed img s (readNamed f)) in
+    rw (o, p) (onward img s offset (f .ne) (g .ne) (dataOf even) (dataOf odd) buf other (accepted-room img s buf a) (accepted-room img s other b) z k)
+
+pub odd-reaches : Odd-reaches
+odd-reaches img s cmd buf f t offset v r there right =
+    let a = taken-accepted img s cmd buf v in
+    let i : Inspected img s (idOrCurrent (p1p2 f)) (TransparentFile t) = record { meant = odd-named img s cmd f t offset r; there = there; right = right } in
+    let o : step img s cmd buf ≡ done (readOddOn img offset (f .ne) t) img s (dataOf cmd) buf =
+    step-accepted img s cmd buf a
+    ∙ ap (λ (q : Action). done q img s (dataOf cmd) buf) (odd-decided img s cmd f t offset r)
+    ∙ ap (λ (q : ResolvedTransparent). done (onTransparent q (readOddOn img offset (f .ne))) img s (dataOf cmd) buf) (inspected-resolved img s (accepted-facts img s (length buf) a .0) t _ i) in
+    rw o (answered img s t offset (f .ne) (dataOf cmd) buf)

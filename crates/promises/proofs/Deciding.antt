@@ -40,6 +40,8 @@ use Rattle.machine_apdu.proofs.Laws.{shape-facts}
 use Rattle.machine_action.specs.Tests.{allLe, onRecord}
 use Rattle.machine_action.specs.declared.Action.{Action}
 use Rattle.machine_action.specs.declared.Action.the-variants.{Status, SelectApplication, SelectFile, ReadBinary, UpdateBinary, Activate, AppendRecord, ReadRecord, SearchRecord, Report, ReadBinaryOdd}
+use Rattle.machine_binary.specs.ReadBinary.{readBinary}
+use Rattle.machine_binary.specs.ReadBinaryOdd.{readBinaryOdd}
 use Rattle.machine_record.specs.SearchRecord.{fileIn, searchNamed, searchOn, searchBy, searchRecord}
 use Rattle.machine_dispatch.specs.Decide.{byIns, byClass, byShape, decide, dataBy, dataOf}
 use Rattle.machine_dispatch.proofs.Allowing.{From, FromShape, decide-from, bytes-part}
@@ -66,10 +68,23 @@ module _ (cmd : List ℕ) (f : Frame) (e : shapeOf cmd ≡ Good f) where
   pub data-length : length (dataOf cmd) ≡ f .lc
   data-length = ap length data-is ∙ length-part cmd (f .from) (f .lc) (shape-facts cmd (shapeOf cmd) f refl e .inside)
 
+  -- the data field of a command that is bytes is bytes
+  pub data-bytes : AllBytes cmd → AllBytes (dataOf cmd)
+  data-bytes b = subst AllBytes (sym data-is) (bytes-part cmd (f .from) (f .lc) b)
+
   -- what a command comes to, by its CLA
   pub class-decided : (img : List ℕ) (s : Session) → decide img s cmd ≡ byClass img s f (dataOf cmd)
   unfolding decide
   class-decided img s = ap (byShape img s cmd) e ∙ ap (byClass img s f) (sym data-is)
+
+  -- CLA 00 and INS B0, or B1, lead to READ BINARY
+  pub even-led : (img : List ℕ) (s : Session) → isPair f 0x00 0xB0 ≡ true → decide img s cmd ≡ readBinary img s f
+  unfolding byClass byIns
+  even-led img s p = let h = pair-facts f 0x00 0xB0 p in class-decided img s ∙ simp (h .0, h .1)
+
+  pub odd-led : (img : List ℕ) (s : Session) → isPair f 0x00 0xB1 ≡ true → decide img s cmd ≡ readBinaryOdd img s f (dataOf cmd)
+  unfolding byClass byIns
+  odd-led img s p = let h = pair-facts f 0x00 0xB1 p in class-decided img s ∙ simp (h .0, h .1)
 
   -- CLA 00 and INS A2 lead to SEARCH RECORD
   led : (img : List ℕ) (s : Session) → f .header .cla ≡ 0x00 → f .header .ins ≡ 0xA2 → decide img s cmd ≡ searchRecord img s f (dataOf cmd)

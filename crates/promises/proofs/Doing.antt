@@ -72,7 +72,7 @@ use Rattle.machine_binary.proofs.OddReading.{oddCount, OddBounds, odd-bounds}
 use Rattle.machine_binary.specs.UpdateBinary.{updateOn, updateBy, updateBinary}
 use Rattle.machine_record.specs.AppendRecord.{appendOn, appendRecord}
 use Rattle.machine_dispatch.specs.Decide.{byIns, byOwnIns, byClass, byShape, decide, dataOf}
-use Rattle.machine_dispatch.proofs.Allowing.{Appends, Writable, bytes-part}
+use Rattle.machine_dispatch.proofs.Allowing.{Appends, Writable}
 use Rattle.machine_reply_fmm.specs.Report.{total, remaining, existing, reportData}
 use Rattle.machine_reply_fmm.proofs.Reporting.{report-bound}
 use Rattle.machine_answer.specs.Outcome.{Outcome, says}
@@ -81,7 +81,7 @@ use Rattle.machine.specs.Step.{verdictOn, step}
 use Rattle.promises.specs.Calls.{isPair}
 use Rattle.promises.specs.Done.{Only, Obeyed, Appended, Append-done, Updated, Update-done, Activated, Activate-done, Fetched, Read-done, FetchedOdd, Read-odd-done, Selected, Select-done, Referred, Reported, Fmm-done}
 use Rattle.promises.proofs.Answering.{data-said, step-accepted, status-accepted, accepted-facts, accepted-room}
-use Rattle.promises.proofs.Deciding.{pair-facts, data-is, data-length, class-decided}
+use Rattle.promises.proofs.Deciding.{pair-facts, data-length, data-bytes, class-decided, even-led, odd-led}
 use Rattle.promises.specs.Files.{Inspected, Writes-to}
 use Rattle.promises.proofs.Naming.{record-meant, record-permitted, p2-meant, biometrics-writes, transparent-inspected, file-inspected}
 use Rattle.promises.proofs.Growing.{accepts, write-accepted, write-changes}
@@ -223,14 +223,11 @@ update-done img s cmd buf f y b = came img s cmd buf f b R (updateBinary img s f
     word : (w : ℕ) → ltb w 0x9000 ≡ true → Came img s (dataOf cmd) buf R (Status w)
     word = word-came img s (dataOf cmd) buf R
 
-    data-bytes : AllBytes (dataOf cmd)
-    data-bytes = subst AllBytes (sym (data-is cmd f (b .shape))) (bytes-part cmd (f .from) (f .lc) y)
-
     write : (w : Writes) → readUpdate (dataOf cmd) ≡ Writing w → (n : ℕ) → resolveBiometrics img s (idOrCurrent (p1p2 f)) ≡ BiometricsAt n
         → Writable img s n w → Came img s (dataOf cmd) buf R (UpdateBinary n w)
     write w v n e a z =
         unfold done says in
-        let x = update-sound (dataOf cmd) w v data-bytes in
+        let x = update-sound (dataOf cmd) w v (data-bytes cmd f (b .shape) y) in
         let offset = x .0 in
         let bytes = x .1 in
         let u = x .2 in
@@ -325,13 +322,10 @@ read-named f = (
 )
 
 pub read-done : Read-done
-read-done img s cmd buf f b = came img s cmd buf f b R (readBinary img s f) led tests
+read-done img s cmd buf f b = came img s cmd buf f b R (readBinary img s f) (even-led cmd f (b .shape) img s (b .pair)) tests
   where
     R : Outcome → Type 0
     R = Fetched img s f
-
-    led : decide img s cmd ≡ readBinary img s f
-    led = by-class img s cmd buf f b ∙ (unfold byClass byIns in simp (cla img s cmd buf f b, ins img s cmd buf f b))
 
     word : (w : ℕ) → ltb w 0x9000 ≡ true → Came img s (dataOf cmd) buf R (Status w)
     word = word-came img s (dataOf cmd) buf R
@@ -368,25 +362,19 @@ read-done img s cmd buf f b = came img s cmd buf f b R (readBinary img s f) led 
 -- ---- READ BINARY with the odd INS
 
 pub read-odd-done : Read-odd-done
-read-odd-done img s cmd buf f y b = came img s cmd buf f b R (readBinaryOdd img s f (dataOf cmd)) led tests
+read-odd-done img s cmd buf f y b = came img s cmd buf f b R (readBinaryOdd img s f (dataOf cmd)) (odd-led cmd f (b .shape) img s (b .pair)) tests
   where
     R : Outcome → Type 0
     R = FetchedOdd img s cmd f
 
-    led : decide img s cmd ≡ readBinaryOdd img s f (dataOf cmd)
-    led = by-class img s cmd buf f b ∙ (unfold byClass byIns in simp (cla img s cmd buf f b, ins img s cmd buf f b))
-
     word : (w : ℕ) → ltb w 0x9000 ≡ true → Came img s (dataOf cmd) buf R (Status w)
     word = word-came img s (dataOf cmd) buf R
-
-    data-bytes : AllBytes (dataOf cmd)
-    data-bytes = subst AllBytes (sym (data-is cmd f (b .shape))) (bytes-part cmd (f .from) (f .lc) y)
 
     read : (a : ℕ) → readOffsetObject (dataOf cmd) ≡ Offset a → (t : Transparent) → resolveTransparent img s (idOrCurrent (p1p2 f)) ≡ TransparentAt t → TransparentResolved img s t
         → (n : ℕ) → OddBounds img a (f .ne) t n → Came img s (dataOf cmd) buf R (ReadBinaryOdd t a n)
     read a v t e r n k z =
         unfold done says in
-        let x = offset-sound (dataOf cmd) a v data-bytes in
+        let x = offset-sound (dataOf cmd) a v (data-bytes cmd f (b .shape) y) in
         let o = x .1 in
         let c : List ℕ = part (fileBytes img t) a n in
         let l : length c ≡ n = length-part (fileBytes img t) a n (k .inside) in
@@ -525,9 +513,6 @@ fmm-done img s cmd buf f y b = came img s cmd buf f b R (fmm img s f (dataOf cmd
     word : (w : ℕ) → ltb w 0x9000 ≡ true → Came img s (dataOf cmd) buf R (Status w)
     word = word-came img s (dataOf cmd) buf R
 
-    data-bytes : AllBytes (dataOf cmd)
-    data-bytes = subst AllBytes (sym (data-is cmd f (b .shape))) (bytes-part cmd (f .from) (f .lc) y)
-
     report : (n : Named) → (p1 ≡ 0 → n ≡ Current) → ((p1 ≡ 0 → ⊥) → Referred (dataOf cmd) n) → Came img s (dataOf cmd) buf R (fmmNamed img s p2 n)
     report n c d =
         unfold fmmNamed fmmOn done says in
@@ -552,7 +537,7 @@ fmm-done img s cmd buf f y b = came img s cmd buf f b R (fmm img s f (dataOf cmd
     refers : (q : Span) → readReference (dataOf cmd) ≡ Refers q → (n : Named) → (length (value q) ≡ 1 → (getD (value q) 0 0 % 8 ≡ 0) × (n ≡ Short (getD (value q) 0 0 / 8)))
         → (length (value q) ≡ 2 → n ≡ Id (idIn (value q))) → Referred (dataOf cmd) n
     refers q e n c d =
-        let x = reference-sound (dataOf cmd) q e data-bytes in
+        let x = reference-sound (dataOf cmd) q e (data-bytes cmd f (b .shape) y) in
         let w = x .1 .file-placed .is in
         record {
           reference = value q;

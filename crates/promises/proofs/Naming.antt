@@ -1,17 +1,18 @@
 -- What steps 7 to 9 answer is the file that the command means: the machine's look-ups find what ../specs/Files.antt says (`record-meant` and
--- its like), and a record file that is meant is found (`meant-resolved`). A transparent file is looked for as by its id (`meant-by-id`). No short id has 000 in its low bits (`spellings-apart`), so that
--- a byte of a search means one file only (`byte-means-one`). Read before: ../specs/Files.antt.
-use Prim.Native.Nat.{ℕ, _-_, _%_}
+-- its like), and a file that is meant is found, a record file (`meant-resolved`) and a transparent one (`meant-by-id`, `inspected-resolved`). No
+-- short id has 000 in its low bits (`spellings-apart`), so that a byte of a search means one file only (`byte-means-one`). Read before:
+-- ../specs/Files.antt.
+use Prim.Native.Nat.{ℕ, _+_, _-_, _%_, _≤_}
 use mathlib.Core.Path.{_≡_, refl, sym, ap, ap₂, subst, _∙_}
 use mathlib.Core.Bool.{Bool, true, false, _||_, or-false}
 use mathlib.Core.List.{List, [], _∷_, List·Memᴰ}
 use native.Mathlib.Omega.{arith}
 use lib.ListN.{length, getD}
 use lib.Dec.{leb, eqb}
-use borrow.Author.Tests.{eqb-true, eq-eqb, not-true}
+use borrow.Author.Tests.{eqb-true, eq-eqb, ne-eqb, leb-true, le-leb, not-true}
 use Rattle.base.specs.Choice.{allOf}
 use Rattle.base.proofs.Cases.{by-cases, ifElse-ind, false-true, and-left, and-right, allOf-facts, allOf-accepted}
-use Rattle.store_kinds.specs.Rules.{biometrics, rules, ruleOf, presentBy, biometricsKind}
+use Rattle.store_kinds.specs.Rules.{biometrics, rules, firstRule, ruleOf, presentBy, isBiometrics, biometricsKind}
 use Rattle.store_kinds.specs.declared.rules.Rule.{Rule}
 use Rattle.store_kinds.specs.declared.rules.Ruled.{Ruled}
 use Rattle.store_kinds.specs.declared.rules.Ruled.the-variants.{Is, Nothing}
@@ -19,7 +20,9 @@ use Rattle.store_kinds.specs.declared.rules.Key.{Key}
 use Rattle.store_kinds.specs.declared.rules.Key.the-variants.{Kind as ByKind, Id as ById, Short as ByShort}
 use Rattle.store_kinds.proofs.Table.{Regular, rule-key, rule-listed, listed-regular}
 use Rattle.store_kinds.proofs.Presence.{presentBy-has}
-use Rattle.store_image.specs.Image.{has, present}
+use Rattle.store_kinds.proofs.ByKind.{kindOk-ruled}
+use Rattle.store_image.specs.Image.{has, present, body, wellFormed}
+use Rattle.store_image.proofs.Laws.{body-wellFormed}
 use Rattle.store_files.specs.Files.{ruled, biometricsById, masterBy, byId, byShort, transparentId, idOf}
 use Rattle.store_files.specs.declared.Transparent.{Transparent}
 use Rattle.store_files.specs.declared.Transparent.the-variants.{Info, Dir, Biometrics}
@@ -357,6 +360,43 @@ module _ (img : List ℕ) (s : Session) where
       at Nowhere c = false-true c
       at (OnFile i) c = on i c
       at (OnRecord i n) c = on i c
+
+-- a transparent file that the card has is found by its id
+
+-- the one record file of biometrics has another id
+no-rule : (i : ℕ) → 0x0200 ≤ i → ruleOf (ById biometrics i) ≡ Nothing
+unfolding ruleOf firstRule rules
+no-rule i h = simp (ne-eqb 0x011A i (λ e. omega (arith, e)))
+
+-- a well-formed card has no kind 0400 + n but those of biometrics files
+numbered : (img : List ℕ) (n : ℕ) → wellFormed img ≡ true → has img (biometricsKind n) ≡ true → isBiometrics (biometricsKind n) ≡ true
+numbered img n o h =
+    by-cases (isBiometrics (biometricsKind n)) (λ b. b)
+    (λ b. let x = kindOk-ruled (biometricsKind n) (body img (biometricsKind n)) b (body-wellFormed img (biometricsKind n) o h) in
+    let r = x .rule in
+    let g = listed-regular r (rule-listed (ByKind (biometricsKind n)) r (x .ruled)) in
+    absurd (omega (arith, g .high, g .last, eqb-true (r .kind) (biometricsKind n) (rule-key (ByKind (biometricsKind n)) r (x .ruled)))))
+
+module _ (img : List ℕ) (s : Session) (o : wellFormed img ≡ true) where
+  found-by-id : (t : Transparent) → eqb (applicationOfFile (TransparentFile t)) (s .application) ≡ true → isThere img (TransparentFile t) ≡ true
+      → byId img (s .application) (transparentId t) ≡ Known (TransparentFile t)
+  unfolding byId masterBy transparentId applicationOfFile isThere isBiometrics biometricsById
+  found-by-id Info h k = simp (eq-eqb (s .application) 0 (sym (eqb-true 0 (s .application) h)))
+  found-by-id Dir h k = simp (eq-eqb (s .application) 0 (sym (eqb-true 0 (s .application) h)))
+  found-by-id (Biometrics n) h k =
+      let a : s .application ≡ biometrics = sym (eqb-true biometrics (s .application) h) in
+      let b = allOf-facts (leb 0x0401 (biometricsKind n) ∷ leb (biometricsKind n) 0x0440 ∷ []) (numbered img n o k) in
+      let low = leb-true 0x0401 (biometricsKind n) (b .0) in
+      let high = leb-true (biometricsKind n) 0x0440 (b .1 .0) in
+      let same : 0x0200 + n - 0x0200 ≡ n = omega arith in
+      let i : ℕ = transparentId (Biometrics n) in
+      let tests : allOf (eqb biometrics biometrics ∷ leb 0x0201 i ∷ leb i 0x0240 ∷ has img (biometricsKind n) ∷ []) ≡ true =
+      allOf-accepted _ (refl, (le-leb 0x0201 i (omega arith), (le-leb i 0x0240 (omega arith), (k, tt)))) in
+      simp (a, no-rule i (omega arith), same, tests)
+
+  pub inspected-resolved : (t : Transparent) (n : Named) → Inspected img s n (TransparentFile t) → resolveTransparent img s n ≡ TransparentAt t
+  unfolding resolveTransparent isMeant mayInspect
+  inspected-resolved t n i = rw (meant-by-id img s t n (i .meant)) (simp (found-by-id t (allOf-facts _ (i .meant) .0) (i .there), i .right))
 
 -- ---- P2 means one record file only
 

@@ -2,7 +2,7 @@
 -- Certificates.antt, Index.antt, Stamps.antt or Rights.antt.
 use Rattle.promises.specs.Promises.{Says-no, Gets-word, Opens, Holds, Number-kept, Reads-history, Leaves-none-out, Only-searches, Search-refused, Both-spellings, Stays-accepted, Answer-fits, Opening-fits, Session-bytes, Opening-bytes, Result-whole, Move-says-no, Move-done, Same-sizes, Move-twice, Move-whole}
 use Rattle.promises.specs.Done.{Append-done, Update-done, Activate-done, Read-done, Read-odd-done, Select-done, Fmm-done}
-use Rattle.promises.specs.Binary.{Both-reads}
+use Rattle.promises.specs.Binary.{Both-reads, Odd-reaches}
 use Rattle.promises.specs.Linked.{C-sees, C-malformed, C-says-no, C-gets-word, C-holds, C-number-kept, C-reads-history, C-leaves-none-out, C-opens, C-moves}
 use Rattle.promises.specs.Bodies.{C-file, C-file-stays}
 use Rattle.promises.specs.Certificates.{C-certificate, C-certificate-kept}
@@ -111,6 +111,9 @@ read-odd-done = doing.read-odd-done
 
 pub both-reads : Both-reads
 both-reads = binary.both-reads
+
+pub odd-reaches : Odd-reaches
+odd-reaches = binary.odd-reaches
 
 pub select-done : Select-done
 select-done = doing.select-done

@@ -132,7 +132,7 @@ pub fn select() -> [Case; 2] {
 pub fn read_binary() -> Case {
     let command = Apdu::new(0x00, 0xB0, 0x00, 0x00).le(0).extended(true);
     let held = "Biometrics 1 current, 4,096 bytes written";
-    let name = "READ BINARY of 2,048 bytes";
+    let name = "READ BINARY B0 of 2,048 bytes";
     let card = biometrics_card(4_096, 4_096);
     Case::new(name, held, &card, BIOMETRICS, command).current()
 }

@@ -103,7 +103,7 @@ fn b0(offset: usize, ne: u16, answer: &str) -> Line {
     run(&command, answer)
 }
 
-/// A card with these bytes in the first file. The session has all rights but those of the third.
+/// A card with so many bytes written in the first file. The session has all rights but those of the third.
 fn a_card(written: usize) -> Vec<Line> {
     let small = |state| make::biometrics(state, 0, &[0xEE; 16]);
     let image = [

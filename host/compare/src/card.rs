@@ -163,7 +163,7 @@ fn biometrics(random: &mut Random, written: usize, room: usize) -> Vec<u8> {
     make::biometrics(state, written, &bytes)
 }
 
-/// A card with a biometrics file of more than 32,767 bytes, and at times a second one as far as
+/// A card with a biometrics file of 32,767 bytes or more, and at times a second one as far as
 /// the image has room for it. The other files are small, since a large one costs enough.
 fn large(random: &mut Random) -> Vec<u8> {
     let present = 4 | random.below(4);
@@ -187,7 +187,7 @@ fn large(random: &mut Random) -> Vec<u8> {
     image
 }
 
-/// Numbers that need a bit more than the one below: those of 15 and of 16 bits.
+/// The first numbers that 15 and 16 bits do not hold.
 const BORDERS: [usize; 2] = [0x8000, 0x1_0000];
 
 /// A large body: its room and what is written at the most, at a border, or between.

@@ -1,5 +1,5 @@
-//! Made-up commands: each of the nine well formed, with parameters that mean something on the
-//! card at hand; then, now and then, with something wrong.
+//! Made-up commands: each of the eight well formed, READ BINARY in both forms, with parameters that
+//! mean something on the card at hand; then, now and then, with something wrong.
 
 use crate::card::Size;
 use crate::make::{self, Apdu};
@@ -186,7 +186,7 @@ impl<'a> Maker<'a> {
     }
 
     /// A number of a search's window, in one or two bytes; one only where the number fits. Now and
-    /// then it has three, as only an offset may.
+    /// then it has three, as only an offset in a file may.
     fn number(&mut self, number: usize) -> Vec<u8> {
         let number = number.min(0xFFFF);
         let fewest = make::fewest_bytes(number);

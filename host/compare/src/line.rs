@@ -33,7 +33,7 @@ pub fn moved(rows: &[(u16, usize)], more: usize) -> Line {
     moves(make::list(rows), length + more, &format!("{length} bytes"))
 }
 
-/// A move that is refused though the target has room enough.
+/// A move that is refused for another reason than the target's length.
 pub fn refused(rows: &[(u16, usize)], number: u8) -> Line {
     moves(make::list(rows), 400, &format!("refusal {number}"))
 }

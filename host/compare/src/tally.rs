@@ -33,7 +33,7 @@ const CERTIFICATES: [&str; 4] = ["refusal 9", "missing", "card", "desk"];
 /// What the body of certificates may be like that a reference is looked up in.
 const FORMS: [&str; 4] = ["damaged", "empty", "full", "other"];
 
-/// Where a command belongs that is none of the nine by its first two bytes.
+/// Where a command belongs that has none of the nine pairs of CLA and INS.
 const OTHER: usize = NAMES.len();
 
 #[derive(Default)]

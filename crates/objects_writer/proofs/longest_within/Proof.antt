@@ -1,9 +1,9 @@
 -- `longest_within` meets its contract: by the form of the length, what it answers fits, and a byte more does not.
-use Prim.Native.Nat.{ℕ, suc, _-_, _≤_, _<_}
+use Prim.Native.Nat.{ℕ, suc, _-_}
 use mathlib.Core.Path.{_∙_}
 use native.Mathlib.Omega.{arith}
 use borrow.Author.Needs.{needs}
-use Rattle.objects_writer.proofs.Fitting.{objectLength-ind, longestWithin-is}
+use Rattle.objects_writer.proofs.Fitting.{objectLength-is, longestWithin-is}
 use Rattle.objects_writer.proofs.longest_within.Statement.{statement}
 use Rattle.objects_writer.proofs.longest_within.Tie as tie
 
@@ -20,10 +20,7 @@ returns : tie.Need-returns
 returns c =
     let a = c .before .before .before .before .args in
     let k : ℕ = c .before .min .result in
-    (c .min2 .ensures)
-    ∙ longestWithin-is (a .limit) k (a .most)
-    (λ p. objectLength-ind k (λ (x : ℕ). x ≤ a .limit) (λ h. omega arith) (λ h i. omega arith) (λ h. omega arith))
-    (objectLength-ind (suc k) (λ (x : ℕ). a .limit < x) (λ h. omega arith) (λ h i. omega arith) (λ h. omega arith))
+    (c .min2 .ensures) ∙ longestWithin-is (a .limit) k (a .most) (λ p. omega (arith, objectLength-is k)) (omega (arith, objectLength-is (suc k)))
 
 sub-min : tie.Need-sub-min
 sub-min c = search needs
@@ -38,10 +35,7 @@ returns-2 : tie.Need-returns-2
 returns-2 c =
     let a = c .before .before .before .before .args in
     let k : ℕ = c .before .min3 .result in
-    (c .min4 .ensures)
-    ∙ longestWithin-is (a .limit) k (a .most)
-    (λ p. objectLength-ind k (λ (x : ℕ). x ≤ a .limit) (λ h. omega arith) (λ h i. omega arith) (λ h. omega arith))
-    (objectLength-ind (suc k) (λ (x : ℕ). a .limit < x) (λ h. omega arith) (λ h i. omega arith) (λ h. omega arith))
+    (c .min4 .ensures) ∙ longestWithin-is (a .limit) k (a .most) (λ p. omega (arith, objectLength-is k)) (omega (arith, objectLength-is (suc k)))
 
 sub-min-2 : tie.Need-sub-min-2
 sub-min-2 c = search needs
@@ -53,10 +47,7 @@ returns-3 : tie.Need-returns-3
 returns-3 c =
     let a = c .before .before .before .args in
     let k : ℕ = c .before .before .before .args .limit - 4 in
-    (c .min5 .ensures)
-    ∙ longestWithin-is (a .limit) k (a .most)
-    (λ p. objectLength-ind k (λ (x : ℕ). x ≤ a .limit) (λ h. omega arith) (λ h i. omega arith) (λ h. omega arith))
-    (objectLength-ind (suc k) (λ (x : ℕ). a .limit < x) (λ h. omega arith) (λ h i. omega arith) (λ h. omega arith))
+    (c .min5 .ensures) ∙ longestWithin-is (a .limit) k (a .most) (λ p. omega (arith, objectLength-is k)) (omega (arith, objectLength-is (suc k)))
 
 pub longest-within-spec : {M : Type 1} → statement M
 longest-within-spec =
