@@ -103,11 +103,11 @@ uint64_t malquindo_open(const uint8_t *rights, size_t rights_len, uint8_t *sessi
  * Image and session change only where the status is 0x9000. With any other status, and on a refusal, they stay as they came.
  * The command is only read.
  *
- * A biometrics file has up to 131,072 bytes. READ BINARY with INS B0 has an offset of 15 bits, up to 32,767. INS B1 reaches all
- * of the file. Its P1-P2 are the file's id, or 0000 for the current file. It has Lc and Le; Le under 3 gets 0x6700. Its data is
- * the object 54 with an offset of 1 to 3 bytes, as in UPDATE BINARY. The reply is the object 53: the length is one byte up to
- * 127, 81 and one byte up to 255, 82 and two bytes above; then as many bytes of the file as fit, 2,044 at the most. Read on at
- * the offset behind them, until 0x6B00 says that the file ends.
+ * A biometrics file has up to 131,072 bytes. READ BINARY with INS B0 has an offset of 15 bits, up to 32,767. INS B1 reaches
+ * all of the file. Its P1-P2 are the file's id, or 0000 for the current file. It has Lc and Le; an Le of 1 or 2 gets
+ * 0x6700. Its data is the object 54 with an offset of 1 to 3 bytes, as in UPDATE BINARY. The reply is the object 53: the
+ * length is one byte up to 127, 81 and one byte up to 255, 82 and two bytes above; then as many bytes of the file as fit,
+ * 2,044 at the most. Read on at the offset behind them, until 0x6B00 says that the file ends.
  *
  * Refusals, tested in this order: 1, 2, 4. A refused command leaves the response as it came. */
 uint64_t malquindo_command(uint8_t *image, size_t image_len, uint8_t *session, size_t session_len,

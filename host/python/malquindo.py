@@ -53,7 +53,7 @@ An index of EntryRecords, which reads a record without a walk over those before 
     Index(0x0101, [2, 10, 18])
 
 A biometrics file has up to 131,072 bytes. READ BINARY with INS B0 reads from offsets up to 32,767, with INS B1 from any. P1-P2 of B1 are the file's
-id, or 0000 for the current file; it has Lc and Le, and Le under 3 gets 6700. The offset is an object 54 of one to three bytes, and the reply an object 53:
+id, or 0000 for the current file; it has Lc and Le, and an Le of 1 or 2 gets 6700. The offset is an object 54 of one to three bytes, and the reply an object 53:
 
     >>> image = malquindo.move_card(b'', [(0x031A, 2), (0x0401, 5 + 131072)])
     >>> session = malquindo.open(b'\\xFF' * malquindo.RIGHTS_LEN)

@@ -193,9 +193,9 @@ pub fn open(rights: &[u8]) -> Result<Session, Refusal> {
 /// One command on a card image. Unless the status is 9000, image and session stay as they came.
 ///
 /// A biometrics file has up to 131,072 bytes. READ BINARY with INS B0 reads from offsets up to
-/// 32,767, with INS B1 from any. P1-P2 of B1 are the file's id, or 0000 for the current file; it has
-/// Lc and Le, and Le under 3 gets 6700. Its data is the object `54` with an offset of one to three
-/// bytes, as in UPDATE BINARY, and its reply is the object `53` with the file's bytes.
+/// 32,767, with INS B1 from any. P1-P2 of B1 are the file's id, or 0000 for the current file; it
+/// has Lc and Le, and an Le of 1 or 2 gets 6700. Its data is the object `54` with an offset of one
+/// to three bytes, as in UPDATE BINARY, and its reply is the object `53` with the file's bytes.
 ///
 /// A file that is written and then read by B1:
 ///
