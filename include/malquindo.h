@@ -19,10 +19,11 @@
  * upper 32 bits are no refusals: they are the reason why the record is no stamp.
  *    1  command        the response buffer is shorter than MALQUINDO_RESPONSE_LEN
  *       rights         the buffer for the rights is shorter than MALQUINDO_RIGHTS_LEN
- *    2  command, move  the image is not well formed
+ *    2  command, cut,  the image is not well formed
+ *       move
  *    3  open           the rights are not MALQUINDO_RIGHTS_LEN bytes
  *    4  open           the session buffer is shorter than MALQUINDO_SESSION_LEN
- *       command        it is shorter, its bytes are no session, or the session does not fit the image
+ *       command, cut   it is shorter, its bytes are no session, or the session does not fit the image
  *    6  index          the body, the list or the number does not fit; each function says when
  *    7  rights         an extension is not well formed, or the rights of a known one have the wrong size
  *    8  rights         a known extension stands in a run for the second time
@@ -112,6 +113,24 @@ uint64_t malquindo_open(const uint8_t *rights, size_t rights_len, uint8_t *sessi
  * Refusals, tested in this order: 1, 2, 4. A refused command leaves the response as it came. */
 uint64_t malquindo_command(uint8_t *image, size_t image_len, uint8_t *session, size_t session_len,
                            const uint8_t *command, size_t command_len, uint8_t *response, size_t response_len);
+
+/* For testers: leaves the image as it is when the power goes in the middle of a command, behind so many of its stores.
+ *
+ * APPEND RECORD and ACTIVATE write the image by stores of one byte each, in this order. An append of n bytes has n + 4: the
+ * low byte and the high byte of the record's length, the record's bytes, the high byte of the file's count and last the low
+ * byte of the count. ACTIVATE has one: the state. With the last store the command is done; before it, every file holds what
+ * it held before the command. What an append left in the free room does not matter: the next append uses that room.
+ *
+ * Where the command is one of these two and malquindo_command would answer it with 0x9000, the first `stores` of its stores
+ * are made. A number beyond the last one is the whole command. Any other command changes nothing here, and neither do these
+ * two where they would get another status. UPDATE BINARY is among the others, though it writes the image.
+ *
+ * The lower 32 bits of the result are how many stores the whole command has, 0 where it changes nothing here. Session and
+ * command are only read, and may overlap: the session is still the one from before the command, and fits the image.
+ *
+ * Refusals, tested in this order: 2, 4. The image then stays as it came. */
+uint64_t malquindo_cut(uint8_t *image, size_t image_len, const uint8_t *session, size_t session_len,
+                       const uint8_t *command, size_t command_len, size_t stores);
 
 /* Moves a card to rooms of other sizes: writes a new image into the target.
  *
@@ -240,6 +259,8 @@ static inline unsigned malquindo_refusal(uint64_t result) { return (unsigned)(re
 static inline size_t malquindo_length(uint64_t result) { return (size_t)(result >> 16 & 0xFFFF); }
 /* Of a command: the status word. */
 static inline unsigned malquindo_status(uint64_t result) { return (unsigned)(result & 0xFFFF); }
+/* Of a cut: how many stores the whole command has. */
+static inline size_t malquindo_stores(uint64_t result) { return (size_t)(result & 0xFFFFFFFF); }
 /* Of a move: the length of the new image. */
 static inline size_t malquindo_moved(uint64_t result) { return (size_t)(result & 0xFFFFFFFF); }
 /* Of a file: where its body begins in the image. */

@@ -90,6 +90,20 @@ A stamp, which is a travel record by Table 11 of ICAO's LDS2 report. A record th
     ...
     malquindo.StampFault: offset 41, LENGTH: a length goes too far, is not the shortest form or is not allowed
 
+For testers: a card that was taken away in the middle of a command. APPEND RECORD and ACTIVATE write a card by stores of one byte; a cut makes the
+first of them, and answers how many the whole command has. Here the last one is missing, that of the count, so the record is none:
+
+    >>> image = malquindo.move_card(b'', [(0x0101, 40), (0x0102, 40), (0x011A, 40)])
+    >>> session = malquindo.open(b'\\xFF' * malquindo.RIGHTS_LEN)
+    >>> print(send('00A4040C07A0000002472001'))
+    9000
+    >>> malquindo.cut(image, session, bytes.fromhex('00E20008065F4403555341'), 9)
+    10
+    >>> print(send('00B2010C000000'))               # READ RECORD 1 of EntryRecords
+    6A83
+    >>> print(send('00E20008065F4403465241'))       # the next append uses its room
+    9000
+
 A status word is an answer, whatever it says. A call that gets none is refused, and that is an exception:
 
     >>> malquindo.command(bytearray(b'no card'), session, b'')
@@ -97,10 +111,10 @@ A status word is an answer, whatever it says. A call that gets none is refused, 
     ...
     malquindo.Refused: 2 BAD_IMAGE: the image is not well formed
 
-rights, open, command, move_card, file, certificate, Index and read_stamp are for most callers. malquindo_rights, malquindo_open,
-malquindo_command, malquindo_move, malquindo_file, malquindo_certificate, malquindo_index_build, malquindo_index_extend, malquindo_index_read
-and malquindo_stamp_read are the functions of the header themselves: they take every buffer of the call and answer the number of 64 bits, so
-that a test can lend a buffer that is too short.
+rights, open, command, cut, move_card, file, certificate, Index and read_stamp are for most callers. malquindo_rights, malquindo_open,
+malquindo_command, malquindo_cut, malquindo_move, malquindo_file, malquindo_certificate, malquindo_index_build, malquindo_index_extend,
+malquindo_index_read and malquindo_stamp_read are the functions of the header themselves: they take every buffer of the call and answer the
+number of 64 bits, so that a test can lend a buffer that is too short.
 
 Buffers are bytes, bytearray or memoryview. One that is written, such as the image, is no bytes object. A list of places is an array.array
 of 32-bit numbers, array.array('I'), or a memoryview of one. Each length is that of the buffer; a type that does not fit is a TypeError, and
@@ -119,11 +133,12 @@ import sys
 from typing import Iterable, NamedTuple, Optional, Tuple, Union
 
 __all__ = ['RIGHTS_LEN', 'SESSION_LEN', 'RESPONSE_LEN', 'IMAGE_LEN', 'RECORDS', 'STAMP_LEN', 'STAMP_PLACES', 'Refusal', 'Refused', 'Answer',
-           'Source', 'Certificate', 'Index', 'StampField', 'Reason', 'StampFault', 'Stamp', 'rights', 'open', 'command', 'move_card', 'file',
+           'Source', 'Certificate', 'Index', 'StampField', 'Reason', 'StampFault', 'Stamp', 'rights', 'open', 'command', 'cut', 'move_card', 'file',
            'certificate', 'read_stamp',
-           'malquindo_session_len', 'malquindo_rights', 'malquindo_open', 'malquindo_command', 'malquindo_move', 'malquindo_file',
+           'malquindo_session_len', 'malquindo_rights', 'malquindo_open', 'malquindo_command', 'malquindo_cut', 'malquindo_move', 'malquindo_file',
            'malquindo_certificate', 'malquindo_index_build', 'malquindo_index_extend', 'malquindo_index_read', 'malquindo_stamp_read',
-           'malquindo_refusal', 'malquindo_length', 'malquindo_status', 'malquindo_moved', 'malquindo_file_place', 'malquindo_file_length',
+           'malquindo_refusal', 'malquindo_length', 'malquindo_status', 'malquindo_stores', 'malquindo_moved', 'malquindo_file_place',
+           'malquindo_file_length',
            'malquindo_certificate_which', 'malquindo_certificate_place', 'malquindo_certificate_length', 'malquindo_index_places',
            'malquindo_index_length', 'malquindo_stamp_reason', 'malquindo_stamp_offset', 'malquindo_stamp_place', 'malquindo_stamp_length']
 
@@ -148,8 +163,8 @@ Places = Union[array.array, memoryview]
 
 
 class Refusal(enum.IntEnum):
-    """Why a call got no status word, no rights, no new image, no index, no record, no certificate or no stamp. The numbers are those of the
-    header."""
+    """Why a call got no status word, no rights, no cut, no new image, no index, no record, no certificate or no stamp. The numbers are those
+    of the header."""
     SHORT_BUFFER = 1
     BAD_IMAGE = 2
     BAD_RIGHTS = 3
@@ -363,6 +378,16 @@ def command(image: Written, session: Written, command: Buffer) -> Answer:
     return Answer(bytes(response[:malquindo_length(result) - 2]), malquindo_status(result))
 
 
+def cut(image: Written, session: Buffer, command: Buffer, stores: int) -> int:
+    """For testers: leaves the image as it is when the power goes behind so many of a command's stores. Gives how many the command has in all.
+
+    APPEND RECORD of n bytes has n + 4 stores of one byte each: the record's length, its bytes, and last the file's count. ACTIVATE has one, the
+    state. Any other command has none, and neither have these two where `command` would not answer 0x9000: then the image stays. UPDATE BINARY
+    is among the others, though it writes. A number beyond the last store is the whole command. The session is only read.
+    """
+    return malquindo_stores(accept(malquindo_cut(image, session, command, stores)))
+
+
 def move_card(old: Buffer, rooms: Iterable[Tuple[int, int]]) -> bytearray:
     """The image of the card with other rooms. Each room is a kind and the length of its body.
 
@@ -433,6 +458,12 @@ def malquindo_command(image: Written, session: Written, command: Buffer, respons
                 written('response', response))
 
 
+def malquindo_cut(image: Written, session: Buffer, command: Buffer, stores: int) -> int:
+    """A cut behind so many stores of a command. The result is refusal * 2^32 + how many stores the whole command has."""
+    return call(library().malquindo_cut, written('image', image), read('session', session), read('command', command),
+                fitting('a number of stores', stores, 8))
+
+
 def malquindo_move(old: Buffer, rooms: Buffer, target: Written) -> int:
     """A move. The result is refusal * 2^32 + the length of the new image. `rooms` is the header's list, 6 bytes for each section."""
     return call(library().malquindo_move, read('old', old), read('rooms', rooms), written('target', target))
@@ -482,6 +513,11 @@ def malquindo_length(result: int) -> int:
 def malquindo_status(result: int) -> int:
     """Of a command: the status word."""
     return result & 0xFFFF
+
+
+def malquindo_stores(result: int) -> int:
+    """Of a cut: how many stores the whole command has."""
+    return result & 0xFFFFFFFF
 
 
 def malquindo_moved(result: int) -> int:
@@ -662,7 +698,8 @@ def call(function: ctypes._CFuncPtr, *arguments: Union[Lent, int]) -> int:
 # What each function takes. A buffer is a pointer and a length.
 BYTES = [ctypes.POINTER(ctypes.c_ubyte), ctypes.c_size_t]
 PLACES = [ctypes.POINTER(ctypes.c_uint32), ctypes.c_size_t]
-FUNCTIONS = {'malquindo_rights': 4 * BYTES, 'malquindo_open': 2 * BYTES, 'malquindo_command': 4 * BYTES, 'malquindo_move': 3 * BYTES,
+FUNCTIONS = {'malquindo_rights': 4 * BYTES, 'malquindo_open': 2 * BYTES, 'malquindo_command': 4 * BYTES,
+             'malquindo_cut': 3 * BYTES + [ctypes.c_size_t], 'malquindo_move': 3 * BYTES,
              'malquindo_file': BYTES + [ctypes.c_uint16], 'malquindo_certificate': 2 * BYTES + [ctypes.c_uint8],
              'malquindo_index_build': [ctypes.c_uint16] + BYTES + PLACES,
              'malquindo_index_extend': [ctypes.c_uint16] + BYTES + PLACES + [ctypes.c_size_t],

@@ -272,6 +272,97 @@ class Buffers(Case):
         self.assertEqual((answers.count(0x9000), image[6]), (240, 240))
 
 
+class Cuts(Case):
+    """Commands that are cut: what is left of the image, by the rules alone."""
+    FIRST, LOST, LATER = b'first', b'lifted', b'later'
+
+    @staticmethod
+    def append(record):
+        """APPEND RECORD to EntryRecords, the first section."""
+        return bytes.fromhex('00E20008') + bytes([len(record)]) + record
+
+    @staticmethod
+    def body(*records):
+        return len(records).to_bytes(2, 'little') + b''.join(len(r).to_bytes(2, 'little') + r for r in records)
+
+    def setUp(self):
+        super().setUp()
+        for command in (SELECT, self.append(self.FIRST)):
+            self.assertEqual(malquindo.command(self.image, self.session, command), (b'', 0x9000))
+
+    def test_an_append_at_every_store(self):
+        used = 6 + len(self.body(self.FIRST))
+        stores = [*enumerate(len(self.LOST).to_bytes(2, 'little') + self.LOST, used), (7, 0), (6, 2)]
+        for made in (*range(len(stores) + 2), 1 << 32, 1 << 63, (1 << 64) - 1):
+            image, session, expected = bytearray(self.image), bytearray(self.session), bytearray(self.image)
+            for place, byte in stores[:made]:
+                expected[place] = byte
+            self.assertEqual(malquindo.cut(image, session, self.append(self.LOST), made), len(stores))
+            self.assertEqual((image, session), (expected, self.session))
+            held = [self.FIRST, self.LOST] if made >= len(stores) else [self.FIRST]
+            self.assertEqual(malquindo.command(image, session, bytes.fromhex('00B2010D000000')), (b''.join(held), 0x9000))
+            self.assertEqual(malquindo.command(image, session, self.append(self.LATER)), (b'', 0x9000))
+            after = self.body(*held, self.LATER)
+            self.assertEqual(image[6:6 + len(after)], after)
+
+    def test_all_stores_are_the_command(self):
+        image, session = bytearray(self.image), bytearray(self.session)
+        malquindo.cut(image, session, self.append(self.LOST), 10)
+        malquindo.command(self.image, self.session, self.append(self.LOST))
+        self.assertEqual(image, self.image)
+
+    def test_an_activation(self):
+        image, session = malquindo.move_card(b'', [(0x031A, 2), (0x0401, 5 + 4)]), malquindo.open(ALL_RIGHTS)
+        update, activate = bytes.fromhex('00D70201075401005302AABB'), bytes.fromhex('00440000')
+        for command in (bytes.fromhex('00A4040C07A0000002472003'), update):
+            self.assertEqual(malquindo.command(image, session, command), (b'', 0x9000))
+        before = bytes(image)
+        self.assertEqual((malquindo.cut(image, session, activate, 0), image), (1, before))
+        self.assertEqual((malquindo.cut(image, session, update, 5), image), (0, before))
+        self.assertEqual((malquindo.cut(image, session, activate, 1), image), (1, before[:14] + b'\x01' + before[15:]))
+        self.assertEqual(malquindo.command(image, session, update), (b'', 0x6982))
+        self.assertEqual(malquindo.cut(image, session, activate, 1), 0)
+
+    def test_no_stores(self):
+        before = bytes(self.image), bytes(self.session)
+        for command in (b'', SELECT, bytes.fromhex('00B2010C000000'), self.append(bytes(200)), self.append(b'')):
+            for made in (0, 1, 1 << 63):
+                self.assertEqual(malquindo.cut(self.image, self.session, command, made), 0)
+        self.assertEqual(malquindo.cut(self.image, malquindo.open(bytes(60)), self.append(self.LOST), 3), 0)
+        self.assertEqual((self.image, self.session), before)
+        self.assertEqual(malquindo.cut(bytearray(), malquindo.open(ALL_RIGHTS), SELECT, 1), 0)
+
+    def test_refused(self):
+        append = self.append(self.LOST)
+        for image, session, refusal in ((b'no card', self.session, 2), (b'no card', b'', 2), (self.image, b'', 4), (self.image, bytes(24), 4),
+                                        (self.image, b'\xFF' * 25, 4), (b'', self.session, 4)):
+            kept = bytearray(image)
+            self.refused(Refusal(refusal), malquindo.cut, kept, session, append, 3)
+            self.answers(malquindo.malquindo_cut(kept, session, append, 3), refusal)
+            self.assertEqual(kept, image)
+
+    def test_any_buffer(self):
+        shelf = bytearray(100) + self.image + b'\xEE'
+        part = memoryview(shelf)[100:-1]
+        self.assertEqual(malquindo.malquindo_cut(part, bytes(self.session) + b'more', memoryview(self.append(self.LOST)), 2), 10)
+        self.assertEqual((shelf[:100], shelf[-1]), (bytes(100), 0xEE))
+        self.assertEqual([i for i, (a, b) in enumerate(zip(part, self.image)) if a != b], [6 + len(self.body(self.FIRST))])
+        # What is only read is copied, so a session in the image does no harm.
+        self.assertEqual(malquindo.malquindo_cut(self.image, memoryview(self.image)[:25], SELECT, 1), 4 << 32)
+
+    def test_wrong_arguments(self):
+        append = self.append(self.LOST)
+        self.assertRaises(TypeError, malquindo.cut, bytes(self.image), self.session, append, 1)
+        for wrong in ('00', 7, None, [0, 1]):
+            self.assertRaises(TypeError, malquindo.cut, wrong, self.session, append, 1)
+            self.assertRaises(TypeError, malquindo.cut, self.image, wrong, append, 1)
+            self.assertRaises(TypeError, malquindo.cut, self.image, self.session, wrong, 1)
+        for wrong in (1.0, '1', None):
+            self.assertRaises(TypeError, malquindo.cut, self.image, self.session, append, wrong)
+        for wrong in (-1, 1 << 64):
+            self.assertRaises(ValueError, malquindo.cut, self.image, self.session, append, wrong)
+
+
 class Moves(Case):
     def test_every_number_stays(self):
         for command, _ in WORKED:

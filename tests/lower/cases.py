@@ -4,7 +4,7 @@
 The answers come from a model of its own, written from the rules of the card image, of data objects and of the data of SEARCH
 RECORD, UPDATE BINARY, READ BINARY B1 and FMM (docs/RULES.md). Where bytes are not well formed the rules say nothing, and the model follows
 docs/DECISIONS.md: numbers past the end read as 0, a part is cut at the end, a walk goes by the count, and what cannot be
-written changes nothing.
+written changes nothing. An append and an activation are lists of single byte stores, of which a case makes the first, or all.
 
 usage: python3 tests/lower/cases.py [--count]     (the same cases each time; --count says how many of each kind there are)
 """
@@ -14,6 +14,7 @@ import sys
 
 RANDOM = random.Random(9303)
 HUGE = 2**64 - 1
+ALL = 4096     # stores: more than any record here has
 
 # ---- the card image --------------------------------------------------------------------------------------------------------------
 
@@ -119,13 +120,34 @@ def fits(body, n):
     return record_places(body)[-1] + 2 + n <= len(body)
 
 
-def appended(body, record):
-    """The body with a record more, or None where it cannot take it."""
+def append_stores(body, record):
+    """What an append stores, a byte at a time in order, as (place, byte): behind the last record its length, the low byte first, and its bytes;
+    then the count's high byte, and last its low byte. Nothing where the body cannot take the record."""
     count, used = little(body, 0, 2), record_places(body)[-1]
     if not fits(body, len(record)) or len(record) > 65535 or count >= 65535:
-        return None
+        return []
     run = len(record).to_bytes(2, "little") + record
-    return (count + 1).to_bytes(2, "little") + body[2:used] + run + body[used + len(run) :]
+    low, high = (count + 1).to_bytes(2, "little")
+    return [(used + i, byte) for i, byte in enumerate(run)] + [(1, high), (0, low)]
+
+
+def activate_stores(body):
+    """The same of an activation: the state alone."""
+    return [(0, 1)] if biometrics_ok(body) else []
+
+
+def stores_in(image, kind, stores_of):
+    """What is stored in an image: the stores of the body of a kind, at their places in the image. Nothing where it is not there."""
+    found = first_of(image, kind)
+    return [(found[0] + place, byte) for place, byte in stores_of(found[1])] if found else []
+
+
+def made(data, stores, k):
+    """The bytes after the first k stores, or all where there are no more."""
+    after = bytearray(data)
+    for place, byte in stores[:k]:
+        after[place] = byte
+    return bytes(after)
 
 
 def updated(body, offset, data):
@@ -137,10 +159,6 @@ def updated(body, offset, data):
         return None
     room = body[5:]
     return body[:1] + max(w, end).to_bytes(4, "little") + room[:offset] + data + room[end:]
-
-
-def activated(body):
-    return b"\x01" + body[1:] if biometrics_ok(body) else None
 
 
 def in_image(image, kind, change):
@@ -332,6 +350,10 @@ def changed(op, name, old, new, x=0, y=0, b=b""):
     case(op, f"{name} {flag(new is not None)} {shown(old if new is None else new)}", x, y, old, b)
 
 
+def stores_case(op, name, old, stores, k, x=0, y=0, b=b""):
+    case(op, f"{name} {len(stores)} {shown(made(old, stores, k))}", x, y, old, b)
+
+
 def image_case(image):
     case(10, f"image.well_formed {flag(image_ok(image))}", a=image)
 
@@ -346,8 +368,9 @@ def present_case(image):
     case(12, "image.present " + " ".join(flag(is_present(image, k)) for k in range(5)), a=image)
 
 
-def image_append_case(image, kind, record):
-    changed(13, "image.append", image, in_image(image, kind, lambda b: appended(b, record)), kind, b=record)
+def image_append_case(image, kind, record, k=ALL):
+    stores = stores_in(image, kind, lambda body: append_stores(body, record))
+    stores_case(13, "image.append", image, stores, k, kind, k, record)
 
 
 def image_update_case(image, kind, offset, data):
@@ -355,8 +378,8 @@ def image_update_case(image, kind, offset, data):
     changed(14, "image.update", image, new, kind, offset, data)
 
 
-def image_activate_case(image, kind):
-    changed(15, "image.activate", image, in_image(image, kind, activated), kind)
+def image_activate_case(image, kind, k=ALL, data=b""):
+    stores_case(15, "image.activate", image, stores_in(image, kind, activate_stores), k, kind, k, data)
 
 
 def used_case(body):
@@ -375,8 +398,8 @@ def records_case(body, longest, most):
     case(23, f"body.well_formed {flag(records_ok(body, longest, most))}", longest, most, body)
 
 
-def append_case(body, record):
-    changed(24, "body.append", body, appended(body, record), b=record)
+def append_case(body, record, k=ALL):
+    stores_case(24, "body.append", body, append_stores(body, record), k, k, b=record)
 
 
 def biometrics_case(body):
@@ -388,8 +411,8 @@ def update_case(body, offset, data):
     changed(31, "biometrics.update", body, updated(body, offset, data), offset, b=data)
 
 
-def activate_case(body):
-    changed(32, "biometrics.activate", body, activated(body))
+def activate_case(body, k=ALL, data=b""):
+    stores_case(32, "biometrics.activate", body, activate_stores(body), k, k, b=data)
 
 
 def look_case(op, name, x, y, test):
@@ -766,6 +789,96 @@ def appends():
     append_case(long, some_bytes(299))
 
 
+# stores: more than any record has, and where a number of 32 bits or a signed one would not do
+BEYOND = (2**32, 2**63, HUGE)
+
+
+def cuts():
+    """Records and activations of which only the first stores are made: at each store, at none, at all, beyond; and where nothing can be taken."""
+    for records in ([], [b"first"], [b"a", b"bc", b"def"]):
+        for n in (1, 2, 5):
+            body = body_of(records, 2 + n + RANDOM.choice((0, 1, 9)))
+            record = some_bytes(n)
+            for k in (*range(n + 6), *BEYOND):
+                append_case(body, record, k)
+            short = body_of(records, 2 + n - 1)
+            for k in (0, 1, n + 4, HUGE):
+                append_case(short, record, k)
+    # a length of two bytes that differ; a count whose high byte changes, in a body of records that have no bytes, and of some that have one
+    for n in (256, 300):
+        body, record = body_of([b"a"], 3) + bytes(n), some_bytes(n)
+        for k in (0, 1, 2, 3, n // 2, n + 1, n + 2, n + 3, n + 4, n + 5, 2**32 + 1):
+            append_case(body, record, k)
+    for count in (254, 255, 256, 510, 511, 512, 767):
+        body, record = count.to_bytes(2, "little") + bytes(2 * count + 8), b"new"
+        for k in (*range(len(record) + 6), BEYOND[count % 3]):
+            append_case(body, record, k)
+    body = body_of([b"a"] * 255, 3)
+    for k in (3, 4, 5):
+        append_case(body, b"b", k)
+
+
+def cuts_in_images():
+    files = {kind: body_of([b"1"], 5) for kind in (row[0] for row in FILES)}
+    files.update({0x0401: biometrics_of(0, 2, b"iris"), 0x0440: biometrics_of(1, 0, b"")})
+    image = image_of(files)
+    for kind in files:
+        for k in range(9):
+            if kind in (0x0101, 0x021A) or k in (0, 4, 6, 7):
+                image_append_case(image, kind, b"2nd", k)
+        for k in (0, 1):
+            image_activate_case(image, kind, k)
+        image_append_case(image, kind, b"long", 3)
+    for k in BEYOND:
+        image_append_case(image, 0x0203, b"2nd", k)
+        image_activate_case(image, 0x0401, k, b"data")
+        for kind in (0, 0x0402, HUGE):
+            image_append_case(image, kind, b"r", k)
+            image_activate_case(image, kind, k)
+    for k in (0, 1, 3, 5, HUGE):
+        image_append_case(section(0x0101, body_of([b"one"], 3)) + section(0x0101, body_of([b"two"], 3)), 0x0101, b"r", k)
+
+
+def cut_activations():
+    for state in (0, 1, 2, 0xFF):
+        for room in (0, 3):
+            for w in (0, room, room + 1):
+                for k in (0, 1, 2, *BEYOND):
+                    activate_case(biometrics_of(state, w, b"abc"[:room]), k, b"data"[: k % 5])
+    for body in (b"", b"\0", bytes(4)):
+        for k in (0, 1, HUGE):
+            activate_case(body, k)
+
+
+def behind_cuts():
+    """What lies in the free room from a cut: the records are those before it, and the next append takes that room."""
+    for records in ([], [b"first", b"2nd"]):
+        record, next_one = b"lost", b"next"
+        body = body_of(records, 14)
+        stores = append_stores(body, record)
+        for k in range(len(stores) + 1):
+            left = made(body, stores, k)
+            used_case(left)
+            record_case(left, len(records) + 1)
+            append_case(left, next_one)
+            after = made(left, append_stores(left, next_one), ALL)
+            for n in (1, len(records), len(records) + 1, len(records) + 2):
+                record_case(after, n)
+            records_case(after, 5, 4)
+
+
+def random_cuts():
+    for n in range(240):
+        body = small_body() if n % 3 else damage_bytes(small_body())
+        record = some_bytes(RANDOM.randint(0, 5))
+        append_case(body + some_bytes(RANDOM.randint(0, 9)), record, RANDOM.randint(0, len(record) + 5))
+    for n in range(60):
+        files = random_files()
+        kind = RANDOM.choice(list(files) or [0x0101])
+        image = image_of(files) if n % 2 else damage_image(files)
+        image_append_case(image, kind, some_bytes(RANDOM.randint(1, 4)), RANDOM.randint(0, 9))
+
+
 def rules():
     for kind in ASKED + list(range(0x00FF, 0x0105)) + list(range(0x0119, 0x011C)) + [0x0203, 0x0204, 0x0301, 0x0319, 0x031B]:
         look_case(40, "kind", kind, 0, lambda r: r[0] == kind)
@@ -779,7 +892,7 @@ def rules():
 
 
 def random_images():
-    for n in range(700):
+    for n in range(450):
         files = random_files()
         image = image_of(files) if n % 4 == 0 else damage_image(files)
         image_case(image)
@@ -789,12 +902,12 @@ def random_images():
         image = image_of(files) if n % 2 else damage_image(files)
         find_case(image, RANDOM.choice(kinds))
         present_case(image)
-    for n in range(250):
+    for n in range(200):
         files = files_of([RANDOM.choice((1, 2, 3))])
         kind = RANDOM.choice(list(files))
         image = image_of(files) if n % 2 else damage_image(files)
         image_append_case(image, kind, some_bytes(RANDOM.randint(1, 8)))
-    for n in range(250):
+    for n in range(200):
         files = files_of([BIOMETRICS], RANDOM.sample(list(NUMBERED), 2))
         kind = max(files) if n % 3 else RANDOM.choice(list(files))
         image = image_of(files) if n % 2 else damage_image(files)
@@ -805,14 +918,14 @@ def random_images():
 
 
 def random_bodies():
-    for n in range(300):
+    for n in range(240):
         body = small_body() if n % 3 == 0 else damage_bytes(small_body())
         used_case(body)
         record_case(body, RANDOM.randint(0, 3))
         fits_case(body, RANDOM.randint(0, 9))
         append_case(body, some_bytes(RANDOM.randint(1, 7)))
         records_case(body, RANDOM.randint(1, 4), RANDOM.randint(0, 3))
-    for n in range(250):
+    for n in range(200):
         body = small_biometrics() if n % 3 == 0 else damage_bytes(small_biometrics())
         biometrics_case(body)
         update_case(body, RANDOM.randint(0, 8), some_bytes(RANDOM.randint(0, 6)))
@@ -1060,14 +1173,14 @@ def random_windows():
     def letters(n):
         return bytes(RANDOM.choice(b"ab") for _ in range(n))
 
-    for _ in range(400):
+    for _ in range(300):
         record = letters(RANDOM.randint(0, 20))
         offset, number = RANDOM.randint(0, len(record) + 2), RANDOM.randint(0, len(record) + 2)
         matches_case(record, offset, number, letters(RANDOM.randint(1, 5)))
     for _ in range(100):
         record = letters(RANDOM.randint(0, 16))
         window_case(record, RANDOM.randint(0, len(record) + 2), RANDOM.randint(0, len(record) + 2))
-    for _ in range(400):
+    for _ in range(300):
         data = letters(RANDOM.randint(0, 60))
         at, n = RANDOM.randint(0, len(data)), RANDOM.randint(1, 14)
         text = data[at : at + n] or b"b"
@@ -1107,6 +1220,7 @@ GROUPS = (
     [whole_images, large_images, torn_images, wrong_kinds, lone_files, damaged_records, damaged_biometrics, appends, rules]
     + [random_images, random_bodies]
     + [lengths, searches, updates, offsets, references, depths, windows, long_strings, random_windows, writing]
+    + [cuts, cuts_in_images, cut_activations, behind_cuts, random_cuts]
 )
 
 

@@ -1,10 +1,12 @@
 #!/usr/bin/env python3
 """Makes what the program `program_terminal` is run on, and what it must write: crates/program_terminal/stdin, stdout, args and data/.
 
-The card is the card to try of docs/RULES.md, in a file, with a larger room for ExitRecords, so that it can hold stamps. The input is
-demo/worked.apdu, then lines that cannot be read, rights in the extensions of certificates, in hexadecimal and in words, where the session stands, help, long lines, what the card holds, moves, certificates by their references, and stamps. The
-answers to the commands are the ones that the source of the rules prints, and for the search by 08 the one of clause T1; the rights follow
-section B of the rules, the extensions section CE, the certificates section P, the stamps section TR; the words are those of the tables below.
+The card is the card to try of docs/RULES.md, in a file, with a larger room for ExitRecords, so that it can hold stamps, and with a biometrics
+file, so that it can be activated. The input is demo/worked.apdu, then lines that cannot be read, rights in the extensions of certificates, in
+hexadecimal and in words, where the session stands, help, long lines, what the card holds, moves, certificates by their references, stamps, and
+commands that are cut. The answers to the commands are the ones that the source of the rules prints, and for the search by 08 the one of clause
+T1; the rights follow section B of the rules, the extensions section CE, the certificates section P, the stamps section TR, the stores of an
+append clause R7, that of an activation clause N7; the words are those of the tables below.
 
 The gate compares standard output alone. `run.py` beside this file compares standard error and the exit status, too.
 
@@ -60,6 +62,7 @@ Each line is answered. Spaces may stand anywhere in a command and in the bytes o
   certificate 07              shows the certificate that a stamp names by 07
   certificate 07 other.card   looks for it on the card, and then in the card image of a file
   stamp 07                    reads record 07, in hexadecimal, of EntryRecords as a stamp; `stamp 07 exit` of ExitRecords
+  cut 3 00 E2 00 08 01 55     leaves the card as it is where the power goes behind 3 of the command's single byte stores
   move new.card 0101 100 0102 50 011A 40
                               writes the card with other rooms into a new file
   help                        writes this
@@ -77,12 +80,14 @@ def section(kind, body):
     return len(body).to_bytes(4, "little") + kind.to_bytes(2, "little") + body
 
 
-# the rooms of EntryRecords, ExitRecords and travel certificates
+# the rooms of EntryRecords, ExitRecords and travel certificates; of biometrics certificates and Biometrics 1, as a move names them
 ROOMS = (40, 1000, 40)
+IRIS = (7, 9)
+IRIS_ROOMS = " 031A 7 0401 9"
 
 
 def to_try():
-    return b"".join(section(kind, bytes(room)) for kind, room in zip((0x0101, 0x0102, 0x011A), ROOMS))
+    return b"".join(section(kind, bytes(room)) for kind, room in zip((0x0101, 0x0102, 0x011A, 0x031A, 0x0401), ROOMS + IRIS))
 
 
 def record_body(records):
@@ -187,7 +192,7 @@ class Cases:
         self.says(line, CANNOT + line)
 
 
-def shown(*records, rooms=ROOMS, visa=()):
+def shown(*records, rooms=ROOMS, visa=(), iris=IRIS):
     used = 2 + sum(2 + len(r) // 2 for r in records)
     files = [f"  EntryRecords            records {len(records)} of 254, bytes left {rooms[0] - used}",
              *(f"    {i + 1}: {spaced(r)}" for i, r in enumerate(records)),
@@ -196,7 +201,9 @@ def shown(*records, rooms=ROOMS, visa=()):
     if visa:
         files += [" visa", f"  VisaRecords             records 0 of 254, bytes left {visa[0] - 2}",
                   f"  visa certificates       records 0 of 254, bytes left {visa[1] - 2}"]
-    return [f"card image of {sum(6 + room for room in (*rooms, *visa))} bytes", " travel", *files]
+    files += [" biometrics", f"  biometrics certificates records 0 of 64, bytes left {iris[0] - 2}",
+              f"  Biometrics 1 Deactivated, bytes written 0 of {iris[1] - 5}:"]
+    return [f"card image of {sum(6 + room for room in (*rooms, *visa, *iris))} bytes", " travel", *files]
 
 
 def worked(c):
@@ -310,17 +317,18 @@ def long_input(c):
 def moves(c):
     """A move to larger rooms, to a file that is there then; one that adds an application; each that is refused; the card at hand stays."""
     there = "! the new card's file cannot be made: larger.card: File exists"
-    c.says("move larger.card 0101 100 0102 50 011A 40", MOVED, *shown_moved((100, 50, 40)))
-    c.says("move larger.card 0101 100 0102 50 011A 40", there)
-    c.says("move none/larger.card 0101 100 0102 50 011A 40",
-           "! the new card's file cannot be made: none/larger.card: No such file or directory")
-    c.says(" move  visa.card  0101 40\t0102 5 011a 40 0203 300 021A 200 # with visa", MOVED, *shown_moved((40, 5, 40), (300, 200)))
+    rooms = "0101 100 0102 50 011A 40" + IRIS_ROOMS
+    c.says(f"move larger.card {rooms}", MOVED, *shown_moved((100, 50, 40)))
+    c.says(f"move larger.card {rooms}", there)
+    c.says(f"move none/larger.card {rooms}", "! the new card's file cannot be made: none/larger.card: No such file or directory")
+    c.says(f" move  visa.card  0101 40\t0102 5 011a 40 0203 300 021A 200{IRIS_ROOMS} # with visa", MOVED, *shown_moved((40, 5, 40), (300, 200)))
     c.says("move other.card 0102 40 0101 40 011A 40", "! refused (10): these rooms make no well-formed card")
     c.says("move other.card 0101 40 0102 40 011A 1", "! refused (10): these rooms make no well-formed card")
     c.says("move other.card 0101 40 0102 40 011A 262047", "! refused (10): these rooms make no well-formed card")
     c.says("move other.card", "! refused (11): a file of the card has no room")
     c.says("move other.card 0203 40 021A 40", "! refused (11): a file of the card has no room")
-    c.says("move other.card 0101 39 0102 40 011A 40", "! refused (12): a room is too small for its file")
+    c.says("move other.card 0101 40 0102 40 011A 40 031A 7", "! refused (11): a file of the card has no room")
+    c.says("move other.card 0101 39 0102 40 011A 40" + IRIS_ROOMS, "! refused (12): a room is too small for its file")
     for line in ("move", "move other.card 0101", "move other.card 0101 40 0102 40 011A forty", "move other.card 10101 40",
                  "move other.card 0101 4294967296"):
         c.cannot(line)
@@ -336,11 +344,7 @@ def binary(c):
     c.command("00 B1 00 00 03 54 01 10 00", "6B00")
     c.command("00 B1 00 00 03 54 01 0E 02", "6700")
     c.says("session", "= session: master file, EF.ATR/INFO")
-    rooms = (40, 5, 40)
-    lines = shown_moved(rooms)
-    lines[0] = f"card image of {sum(6 + n for n in (*rooms, 40, 131077))} bytes"
-    c.says("move iris.card 0101 40 0102 5 011A 40 031A 40 0401 131077", MOVED, *lines, " biometrics",
-           "  biometrics certificates records 0 of 64, bytes left 38", "  Biometrics 1 Deactivated, bytes written 0 of 131072:")
+    c.says("move iris.card 0101 40 0102 5 011A 40 031A 40 0401 131077", MOVED, *shown_moved((40, 5, 40), iris=(40, 131077)))
     c.says("move other.card 0101 40 0102 5 011A 40 031A 40 0401 131078", "! refused (10): these rooms make no well-formed card")
     c.command("00 A4 04 0C 07 A0 00 00 02 47 20 01", "9000")
 
@@ -459,9 +463,89 @@ def stamps(c):
         c.cannot(line)
 
 
-def shown_moved(rooms, visa=()):
+def cut_appends(c):
+    """APPEND RECORD to ExitRecords, cut behind each of its stores: a record that was not counted is none, and the next append takes its room."""
+    def read(number, which):                                          # one record, or from there to the last (J2)
+        return f"00B2{number:02X}{2 << 3 | which:02X}000000"
+
+    def search(mark):                                                 # Q2: in the first byte of each record
+        window = object_of(0xB0, bytes.fromhex("020100020101"))
+        how, what = object_of(0xA1, bytes.fromhex("800100") + window), object_of(0xA3, object_of(0xB1, object_of(0x81, mark)))
+        asked = object_of(0x7F76, object_of(0x51, b"\x02") + how + what)
+        return f"00A200F8{len(asked):02X}{asked.hex()}00"
+
+    def found(mark):                                                  # Q10
+        numbers = (n for n, r in enumerate(c.exits, 1) if r[:1] == mark)
+        return object_of(0x7F76, object_of(0x51, b"\x02") + b"".join(bytes([2, 1, n]) for n in numbers)).hex() + "9000"
+
+    # two bytes of length, the record's two, two of the count
+    for stores, mark in zip((*range(8), 2**32, 2**64 - 1), range(0xB0, 0xBA)):
+        mark, number = bytes([mark]), len(c.exits) + 1
+        lost, later = mark + b"\x01", mark + b"\x02\x03"
+        whole = stores >= 6
+        c.says(f"cut {stores} 00E2001002{lost.hex()}", "= all 6 stores made" if whole else f"= {stores} of 6 stores made")
+        c.command(read(number, 4), lost.hex() + "9000" if whole else "6A83")
+        c.command(f"00E2001003{later.hex()}", "9000")
+        c.exits += [lost, later] if whole else [later]
+        c.command(search(mark), found(mark))
+        c.command(read(number, 5), b"".join(c.exits[number - 1:]).hex() + "9000")
+
+
+NO_STORES = "= no stores: nothing is changed"
+
+
+def cut_others(c):
+    """A cut leaves the session as it was. A command that would not be answered 9000 has no stores, and no other than the two has any."""
+    c.command("00E2001001C0", "9000")
+    c.exits += [b"\xC0", b"\xC1"]
+    where = f"= session: travel, ExitRecords, record {len(c.exits) - 1}"
+    c.says("session", where)
+    c.says(" cut\t007  00 E2 00 10 01 c1 # two more than there are", "= all 5 stores made")
+    # an append to a full file, a record that is read, SELECT, no command, a class that APPEND RECORD does not have
+    for line in ("cut 5 00E20008010A", "cut 0 00E20008010A", "cut 5 00B2010C000000", "cut 5 00A4040C07A0000002472003", "cut 5 00",
+                 "cut 5 80 E2 00 10 01 FF"):
+        c.says(line, NO_STORES)
+    c.says("session", where)
+    c.command(f"00B2{len(c.exits):02X}14000000", "C19000")
+    c.says("open travel=read", OPENED)
+    c.command("00A4040C07A0000002472001", "9000")
+    c.says("cut 5 00E2001001FF", NO_STORES)
+    c.says("open all", OPENED)
+
+
+def cut_activation(c):
+    """ACTIVATE has one store, and behind it nobody writes the file (B11). UPDATE BINARY has none, though it writes."""
+    update, read = "00D7020107 540100 5302 AABB", "00B0000000"
+    for line in ("00A4040C07A0000002472003", "00A4020C020201", update):
+        c.command(line, "9000")
+    c.says("cut 9 " + update.replace("AABB", "CCDD"), NO_STORES)
+    c.command(read, "AABB9000")
+    c.says("cut 0 00440000", "= 0 of 1 stores made")
+    c.command(update, "9000")
+    c.says("cut 1 00440000", "= all 1 stores made")
+    c.says("session", "= session: biometrics, Biometrics 1")
+    c.command(update, "6982")
+    c.says("cut 1 00440000", NO_STORES)
+    c.command("00440000", "6982")
+    c.command(read, "AABB9000")
+
+
+def cuts(c):
+    """Commands that are cut; lines that cannot be read."""
+    cut_appends(c)
+    cut_others(c)
+    cut_activation(c)
+    append = "00E2001001FF"
+    for line in ("cut", "cut 3", "cut " + append, f"cut x {append}", f"cut -1 {append}", f"cut 3x {append}", f"cut 0x3 {append}", f"cut 2E {append}",
+                 f"cut {2**64} {append}", f"cut {10**30} {append}", "cut 3 zz", "cut 3 " + append[:-1], f"cuts 3 {append}"):
+        c.cannot(line)
+    c.command("00A4040C07A0000002472001", "9000")
+    c.command(f"00B2{len(c.exits) + 1:02X}14000000", "6A83")
+
+
+def shown_moved(rooms, visa=(), iris=IRIS):
     """The card behind `rights`, which appended the byte 77 to ExitRecords."""
-    lines = shown(*RECORDS, rooms=rooms, visa=visa)
+    lines = shown(*RECORDS, rooms=rooms, visa=visa, iris=iris)
     at = next(i for i, line in enumerate(lines) if "ExitRecords" in line)
     lines[at:at + 1] = [f"  ExitRecords             records 1 of 254, bytes left {rooms[1] - 5}", "    1: 77"]
     return lines
@@ -479,6 +563,7 @@ def cases():
     binary(c)
     certificates(c)
     stamps(c)
+    cuts(c)
     # a last line that does not end
     c.command("00B2030C000000", RECORDS[2] + "9000")
     return c

@@ -1,6 +1,6 @@
 #!/usr/bin/env python3
 """Runs the terminal and tests what the gate cannot: the exit status, standard error, what the card's file holds at each moment, what a stop
-leaves in it, a terminal as standard input, and the script ./malquindo. Only Python's own library is used.
+or a command that is cut leaves in it, a terminal as standard input, and the script ./malquindo. Only Python's own library is used.
 
 usage: python3 tests/terminal/run.py [--stops N] [--seed N]      (after `rt check program_terminal`)
 """
@@ -115,10 +115,10 @@ def test_gate_cases(folder):
     assert status == 1
     kept = bodies(read(folder, "try.card"))
     assert [r.hex().upper() for r in records(kept[0x0101])] == cases.RECORDS and records(kept[0x0102]) == c.exits
-    assert records(kept[0x011A]) == [b"\xC0\xC1\xC2"]
+    assert records(kept[0x011A]) == [b"\xC0\xC1\xC2"] and kept[0x0401] == biometrics_body(1, b"\xAA\xBB", 4)
     for name in cases.FILES.keys() - {"try.card"}:
         assert read(folder, name) == cases.FILES[name]          # a copy is only read
-    assert len(read(folder, "larger.card")) == 208 and records(bodies(read(folder, "larger.card"))[0x0101]) == records(kept[0x0101])
+    assert len(read(folder, "larger.card")) == 236 and records(bodies(read(folder, "larger.card"))[0x0101]) == records(kept[0x0101])
     assert not os.path.exists(os.path.join(folder, "other.card"))
 
 
@@ -302,6 +302,57 @@ def test_cut(folder):
     assert (status, err) == (2, said) and bodies(after)[0x0401][:255] == files[0x0401][:255]
 
 
+def append_stores(image, record):
+    """The stores of an append to EntryRecords, the first section, in order: place and byte. The count's low byte is the last."""
+    body = bodies(image)[0x0101]
+    used = 6 + 2 + sum(2 + len(r) for r in records(body))
+    low, high = (len(records(body)) + 1).to_bytes(2, "little")
+    return [*enumerate(len(record).to_bytes(2, "little") + record, used), (7, high), (6, low)]
+
+
+def cut_command(folder, name, select, line, answer):
+    """Runs a line that cuts a command, behind those that select. Answers what the file holds when it is answered, and so to the end."""
+    with started(folder, name) as p:
+        p.stdin.write("\n".join((*select, line, "")).encode())
+        p.stdin.flush()
+        said = next(said for said in p.stdout if said.startswith(b"="))
+        assert said.decode() == answer + "\n", said
+        left = read(folder, name)
+        p.stdin.close()
+    assert read(folder, name) == left
+    return left
+
+
+def test_cut_commands(folder):
+    """When a cut is answered, the file holds what it left, no more and no less; the card goes on from there, also in another run."""
+    record, later = b"lifted", b"later"
+    files = {0x0101: record_body([b"first"], 60), 0x0102: bytes(40), 0x011A: bytes(40), 0x031A: bytes(20), 0x0405: biometrics_body(0, b"abc", 9)}
+    stores = append_stores(card(files), record)
+    assert len(stores) == len(record) + 4
+
+    for k in (*range(len(stores) + 2), 2**64 - 1):
+        name = write(folder, "cut.card", card(files))
+        made = f"all {len(stores)}" if k >= len(stores) else f"{k} of {len(stores)}"
+        left = bytearray(card(files))
+        for place, byte in stores[:k]:
+            left[place] = byte
+        assert cut_command(folder, name, [SELECT[1]], f"cut {k} {append(1, record)}", f"= {made} stores made") == left, k
+        held = [b"first", record] if k >= len(stores) else [b"first"]
+        status, out, err = run(folder, "\n".join((SELECT[1], append(1, later), "show")).encode(), name)
+        assert (status, err, out.count("Normal processing")) == (0, "", 2)
+        after = bodies(read(folder, name))
+        assert records(after[0x0101]) == [*held, later], k
+        assert after == {**files, 0x0101: after[0x0101]}
+    name = write(folder, "cut.card", card(files))
+    activated = {**files, 0x0405: biometrics_body(1, b"abc", 9)}
+    for line, answer, left in (("cut 0 00440000", "= 0 of 1 stores made", files), ("cut 5 " + update(5, 0, b"X"), cases.NO_STORES, files),
+                               ("cut 1 00440000", "= all 1 stores made", activated)):
+        assert cut_command(folder, name, [SELECT[3], "00A4020C020205"], line, answer) == card(left)
+    # without a file the card to try is cut; a line that cannot be read ends with status 1
+    status, out, err = run(folder, f"{SELECT[1]}\ncut 3 {append(1, record)}\ncut 3\n".encode())
+    assert (status, out.split("\n")[2], err) == (1, "= 3 of 10 stores made", cases.CANNOT + "cut 3\n")
+
+
 def test_stops(folder, stops, rng):
     """SIGKILL at random moments amid a thousand appends: what was answered is in the file, and at most the next record more."""
     kinds = {0x0101: (1, 1), 0x0102: (1, 2), 0x011A: (1, 0x1A), 0x0203: (2, 3)}
@@ -377,7 +428,8 @@ def main():
     parser.add_argument("--seed", type=int, default=random.randrange(1 << 32))
     options = parser.parse_args()
     print(f"seed {options.seed}")
-    tests = [test_gate_cases, test_status, test_certificates, test_extensions, test_stamps, test_no_card, test_long, test_typed, test_kept, test_cut, test_script]
+    tests = [test_gate_cases, test_status, test_certificates, test_extensions, test_stamps, test_no_card, test_long, test_typed, test_kept, test_cut,
+             test_cut_commands, test_script]
     for test in tests:
         with tempfile.TemporaryDirectory() as folder:
             test(folder)

@@ -4,6 +4,7 @@ use machine_session::Place;
 use machine_session::Session;
 use machine_session::Verdict;
 use objects_templates::Writes;
+use store_cut::Writing;
 use store_files::File;
 use store_files::Transparent;
 use store_kinds::rules;
@@ -101,20 +102,20 @@ pub fn update(
     )
 }
 
-// ACTIVATE.
+// ACTIVATE: its one store. It has no data.
 pub fn activate(image: &mut [u8], s: Session, n: u8, response: &mut [u8]) -> Answer
     ensures { λ x. ⌜ outcome x (now (image .exit)) (now (response .exit)) ≡ says normal [] s (activateIn (now (image .entry)) (biometricsKind n)) (now (response .entry)) ⌝ }
 {
-    store_image::activate(image, rules::biometrics_kind(n));
+    store_image::make_stores(image, rules::biometrics_kind(n), Writing::State, b"", 1);
     status_only(s, status::NORMAL, response)
 }
 
-// APPEND RECORD.
+// APPEND RECORD: all of its stores, four more than the record has bytes.
 pub fn append(image: &mut [u8], s: Session, r: Rule, data: &[u8], response: &mut [u8]) -> Answer
     ensures { λ x. ⌜ outcome x (now (image .exit)) (now (response .exit)) ≡ says normal [] (placedAt s (OnRecord (r .id) (count (body (now (image .entry)) (r .kind)) + 1))) (appendTo (now (image .entry)) (r .kind) (now («data» .entry))) (now (response .entry)) ⌝ }
 {
     let n = body::count(store_image::body(image, r.kind));
-    store_image::append(image, r.kind, data);
+    store_image::make_stores(image, r.kind, Writing::Record, data, data.len() + 4);
     status_only(
         placed(s, Place::OnRecord(r.id, n + 1)),
         status::NORMAL,

@@ -19,6 +19,8 @@ use Rattle.malquindo.proofs.malquindo_index_extend.Kinds as malquindo-i
 use Rattle.malquindo.proofs.malquindo_index_extend.Reads as malquindo-index-extend-reads
 use Rattle.malquindo.proofs.malquindo_index_read.Kinds as malquindo-index-read-kinds
 use Rattle.malquindo.proofs.malquindo_index_read.Reads as malquindo-index-read-reads
+use Rattle.malquindo.proofs.malquindo_cut.Kinds as malquindo-cut-kinds
+use Rattle.malquindo.proofs.malquindo_cut.Reads as malquindo-cut-reads
 use Rattle.malquindo.proofs.malquindo_stamp_read.Kinds as malquindo-stamp-read-kinds
 use Rattle.malquindo.proofs.malquindo_stamp_read.Reads as malquindo-stamp-read-reads
 use Rattle.malquindo.proofs.malquindo_rights.Kinds as malquindo-rights-kinds
@@ -32,6 +34,9 @@ malquindo-open-determined κs a e f p q i = ((p .0 ∙ sym (q .0)) i, (tt, ((p .
 
 pub malquindo-command-determined : Determined malquindo-command-kinds.ps malquindo-command-kinds.r malquindo-command-reads.Post
 malquindo-command-determined κs a e f p q = ap (λ o. (o .result, (o .image, (o .session, (tt, (o .response, tt)))))) (p ∙ sym q)
+
+pub malquindo-cut-determined : Determined malquindo-cut-kinds.ps malquindo-cut-kinds.r malquindo-cut-reads.Post
+malquindo-cut-determined κs a e f p q = ap (λ o. (o .result, (o .image, (tt, (tt, (tt, tt)))))) (p ∙ sym q)
 
 pub malquindo-move-determined : Determined malquindo-move-kinds.ps malquindo-move-kinds.r malquindo-move-reads.Post
 malquindo-move-determined κs a e f p q i = ((p .0 ∙ sym (q .0)) i, (tt, (tt, ((p .1 ∙ sym (q .1)) i, tt))))

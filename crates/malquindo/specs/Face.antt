@@ -14,6 +14,7 @@ use Rattle.machine_session.specs.declared.Verdict.{Verdict}
 use Rattle.machine_session.specs.declared.Verdict.the-variants.{Accepted, Refused}
 use Rattle.machine_answer.specs.Outcome.{Outcome}
 use Rattle.machine.specs.Step.{opening, step}
+use Rattle.machine_cut.specs.Cutting.{CutOutcome, cut}
 use Rattle.machine_session_bytes.specs.Layout.{sessionBytes, isSession, sessionIn}
 use Rattle.store_image.specs.Image.{find, wellFormed}
 use Rattle.store_image.specs.declared.Found.{Found}
@@ -76,6 +77,28 @@ malformed img ses buf = calledAs (resultOf (verdict img false (length buf)) 0 0)
 -- one step of the machine, in the session that the bytes are [X2] [X5]
 unfoldable pub called : List ℕ → List ℕ → List ℕ → List ℕ → Called
 called img ses cmd buf = ifElse (isSession ses) (calledBy ses (step img (sessionIn ses) cmd buf)) (malformed img ses buf)
+
+-- of a cut: refusal · 2^32 + how many stores the whole command has, which is below 2^32 [X16]
+unfoldable pub cutResult : Verdict → ℕ → ℕ
+cutResult v stores = verdictNumber v * 4294967296 + stores % 4294967296
+
+-- what a cut answers, and every byte of the image afterwards [X16]
+pub record CalledCut : Type 0 where
+  pub result : ℕ
+  pub image : List ℕ
+
+-- [X16]
+abbrev pub calledCutAs : ℕ → List ℕ → CalledCut
+calledCutAs r img = record { result = r; image = img }
+
+-- [X16]
+abbrev pub calledCutBy : CutOutcome → CalledCut
+calledCutBy o = calledCutAs (cutResult (o .answer .verdict) (o .answer .stores)) (o .image)
+
+-- a cut in the session that the bytes are. Bytes that are no session fit no image: nothing is touched [X2] [X16]
+unfoldable pub calledCut : List ℕ → List ℕ → List ℕ → ℕ → CalledCut
+calledCut img ses cmd n =
+    ifElse (isSession ses) (calledCutBy (cut img (sessionIn ses) cmd n)) (calledCutAs (cutResult (verdict img false 2050) 0) img)
 
 -- of a move: refusal · 2^32, or the new image's length, which is below 2^32 [X6]
 abbrev pub moveResult : Moved → ℕ

@@ -28,7 +28,7 @@ ghost use Rattle.objects_stamp.specs.Read.{readStamp, readStampInto};
 ghost use Rattle.objects_stamp.specs.declared.StampRead.the-variants.{Told};
 ghost use Rattle.store_index.specs.Index.{build, buildInto, extend, extendInto, measure};
 ghost use Rattle.store_move.specs.Moving.{moveRefusalNumber, moveCard, moveCardInto};
-ghost use Rattle.malquindo.specs.Face.{moveResult, resultOf, openingVerdict, openResult, openSession, sessionAfter, calledAs, called, foundResult, fileResult, certificateResult, indexResult, stampResult, rightsResult};
+ghost use Rattle.malquindo.specs.Face.{moveResult, resultOf, openingVerdict, openResult, openSession, sessionAfter, calledAs, called, cutResult, calledCutAs, calledCut, foundResult, fileResult, certificateResult, indexResult, stampResult, rightsResult};
 
 fn refusal_number(r: Refusal) -> u64
     ensures { λ n. ⌜ (n ≡ refusalNumber r) × (n ≤ 4) ⌝ }
@@ -125,6 +125,36 @@ pub extern "C" fn malquindo_command(
     let s = a.session;
     keep(session, a.status, s);
     result(v, a.length, a.status)
+}
+
+// The two numbers of a cut in one.
+fn cut_result(v: Verdict, stores: usize) -> u64
+    ensures { λ r. ⌜ r ≡ cutResult v stores ⌝ }
+{
+    verdict_number(v) * 4294967296 + (stores % 4294967296) as u64
+}
+
+// What a cut behind so many stores leaves of the image.
+#[no_mangle]
+pub extern "C" fn malquindo_cut(
+    image: &mut [u8],
+    session: &[u8],
+    command: &[u8],
+    stores: usize,
+) -> u64
+    ensures { λ r. ⌜ calledCutAs r (now (image .exit)) ≡ calledCut (now (image .entry)) (now (session .entry)) (now (command .entry)) stores ⌝ }
+{
+    if !machine_session_bytes::is_session(session) {
+        return cut_result(machine_session::judge(image, false, 2050), 0);
+    }
+    let a = machine_cut::cut(
+        image,
+        machine_session_bytes::session_in(session),
+        command,
+        stores,
+    );
+    let v = a.verdict;
+    cut_result(v, a.stores)
 }
 
 // The number of a move's refusal.

@@ -11,6 +11,8 @@ use Rattle.program_console.proofs.result.status.Kinds as result-status-
 use Rattle.program_console.proofs.result.status.Reads as result-status-reads
 use Rattle.program_console.proofs.result.length.Kinds as length-kinds
 use Rattle.program_console.proofs.result.length.Reads as length-reads
+use Rattle.program_console.proofs.result.stores.Kinds as stores-kinds
+use Rattle.program_console.proofs.result.stores.Reads as stores-reads
 use Rattle.program_console.proofs.result.moved_length.Kinds as moved-length-kinds
 use Rattle.program_console.proofs.result.moved_length.Reads as moved-length-reads
 use Rattle.program_console.proofs.result.file_place.Kinds as file-place-kinds
@@ -42,6 +44,9 @@ result-status-determined κs a e f p q i = ((p ∙ sym q) i, e .1)
 
 pub length-determined : Determined length-kinds.ps length-kinds.r length-reads.Post
 length-determined κs a e f p q i = ((p ∙ sym q) i, e .1)
+
+pub stores-determined : Determined stores-kinds.ps stores-kinds.r stores-reads.Post
+stores-determined κs a e f p q i = ((p ∙ sym q) i, e .1)
 
 pub moved-length-determined : Determined moved-length-kinds.ps moved-length-kinds.r moved-length-reads.Post
 moved-length-determined κs a e f p q i = ((p ∙ sym q) i, e .1)

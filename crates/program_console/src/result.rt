@@ -1,6 +1,6 @@
-// The results of the functions for C, taken apart: from the low end 16 bits of status and 16 of length, or 32 of a moved card's length, or 10 of
-// a certificate's length, 18 of its place and 4 that say whose it is; and then the number of the refusal. The result of a file has 32 bits
-// of length, and its place; that of a stamp 32 bits of offset, and the reason of its fault.
+// The results of the functions for C, taken apart: from the low end 16 bits of status and 16 of length, or 32 of a moved card's length or of how
+// many stores a command has, or 10 of a certificate's length, 18 of its place and 4 that say whose it is; and then the number of the refusal. The
+// result of a file has 32 bits of length, and its place; that of a stamp 32 bits of offset, and the reason of its fault.
 ghost use mathlib.Core.Path.{_≡_};
 ghost use Prim.Native.Nat.{_/_, _%_};
 
@@ -23,6 +23,13 @@ pub fn length(result: u64) -> usize
     ensures { λ r. ⌜ r ≡ result / 65536 % 65536 ⌝ }
 {
     (result / 65536 % 65536) as usize
+}
+
+// How many stores a command that is cut has in all.
+pub fn stores(result: u64) -> usize
+    ensures { λ r. ⌜ r ≡ result % 4294967296 ⌝ }
+{
+    (result % 4294967296) as usize
 }
 
 // How long the image is that a move has made.

@@ -50,6 +50,9 @@ fn others() {
     program_console::word(
         b"  stamp 07                    reads record 07, in hexadecimal, of EntryRecords as a stamp; `stamp 07 exit` of ExitRecords\n",
     );
+    program_console::word(
+        b"  cut 3 00 E2 00 08 01 55     leaves the card as it is where the power goes behind 3 of the command's single byte stores\n",
+    );
     program_console::word(b"  move new.card 0101 100 0102 50 011A 40\n");
     program_console::word(
         b"                              writes the card with other rooms into a new file\n",

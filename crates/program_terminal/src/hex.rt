@@ -119,3 +119,42 @@ pub(crate) fn number(word: &[u8], hexadecimal: bool) -> usize {
     }
     value
 }
+
+// The largest number of 64 bits.
+const LARGEST: usize = 18446744073709551615;
+
+// A number of 64 bits; good is false where a word is none.
+pub(crate) struct Amount {
+    pub(crate) value: usize,
+    pub(crate) good: bool,
+}
+
+fn amount_of(value: usize, good: bool) -> Amount {
+    Amount { value, good }
+}
+
+// One decimal digit more, where there still are no more than 64 bits.
+fn longer(value: usize, d: usize) -> Amount {
+    if 9 < d {
+        return amount_of(value, false);
+    }
+    if (LARGEST - d) / 10 < value {
+        return amount_of(value, false);
+    }
+    amount_of(value * 10 + d, true)
+}
+
+// The number of at most 64 bits that a word is in decimal.
+pub(crate) fn decimal(word: &[u8]) -> Amount {
+    let mut value = 0;
+    let mut i = 0;
+    while i < word.len() {
+        let r = longer(value, digit(base::byte(word, i)));
+        if !r.good {
+            return r;
+        }
+        value = r.value;
+        i += 1;
+    }
+    amount_of(value, 0 < i)
+}

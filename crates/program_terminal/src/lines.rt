@@ -1,5 +1,6 @@
 // One line of the input and its answer. Each function here that answers a line says how it ended (status.rt).
 use crate::certificates;
+use crate::cuts;
 use crate::extensions;
 use crate::help;
 use crate::hex;
@@ -152,6 +153,9 @@ fn line(s: &[u8], image: &mut [u8], kept: &mut [u8], session: &mut [u8], how: Ho
         return open_line(s, session);
     }
     let rest = base::part(s, word.len(), s.len());
+    if text::is(word, b"cut") {
+        return ended(s, cuts::line(rest, image, kept, session, how.fd));
+    }
     if text::is(word, b"move") {
         return ended(s, moves::line(rest, image));
     }

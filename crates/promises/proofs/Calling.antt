@@ -8,7 +8,7 @@ use native.Mathlib.Omega.{arith}
 use lib.ListN.{length, take, drop, length-append}
 use lib.Dec.{eqb, ltb}
 use borrow.Author.Tests.{eqb-true, eq-eqb, ne-eqb}
-use Rattle.base.specs.Choice.{ifElse}
+use Rattle.base.specs.Choice.{ifElse, allOf}
 use Rattle.base.specs.Bytes.{put, putFits, AllBytes}
 use Rattle.base.proofs.Cases.{by-cases, ifElse-ind}
 use Rattle.base.proofs.Runs.{length-put, put-refused, putFits-accepted, putFits-refused}
@@ -26,15 +26,18 @@ use Rattle.machine_session.specs.declared.Session.{Session}
 use Rattle.machine_apdu.specs.Shape.{shapeOf}
 use Rattle.machine_answer.specs.Outcome.{Outcome}
 use Rattle.machine.specs.Step.{step, opening}
+use Rattle.machine_cut.specs.Cutting.{cut}
+use Rattle.machine_cut.proofs.Cutting.{cut-stores-small}
 use Rattle.machine_session_bytes.specs.Layout.{placeBytes, sessionBytes, isSession, sessionIn}
-use Rattle.malquindo.specs.Face.{resultOf, openingVerdict, openResult, openSession, sessionAfter, Called, malformed, called, moveResult}
+use Rattle.malquindo.specs.Face.{resultOf, openingVerdict, openResult, openSession, sessionAfter, Called, malformed, called, cutResult, calledCut, moveResult}
 use Rattle.store_move.specs.Moving.{moveRefusalNumber, moveCard, moveCardInto, Numbered}
 use Rattle.store_move.specs.declared.Moved.{Moved}
 use Rattle.store_move.specs.declared.Moved.the-variants.{Image, Refused as MoveRefused}
 use Rattle.store_move.proofs.Moves.{moveRefusalNumber-listed, moveRefusalNumber-some, moveCard-numbered}
-use Rattle.promises.specs.Calls.{Call, Open, Command, Move, imageAfterMove, afterCall, after, addedBy, added, additions, history}
+use Rattle.promises.specs.Calls.{Call, Open, Command, Move, Cut, imageAfterMove, afterCall, after, addedBy, addedByCut, added, additions, history}
 use Rattle.promises.specs.Promises.{Whole, Kept, Answered, Reads, Names, MovedCard}
-use Rattle.promises.specs.Linked.{refusalIn, lengthIn, statusIn, movedIn, verdictBy, seen, CCall, OpenC, CommandC, MoveC, imageAfterMoveC, afterCallC, afterC, addedC, additionsC, historyC, C-sees, MalformedC, C-malformed, KeptC, C-says-no, C-gets-word, C-holds, C-number-kept, C-reads-history, C-leaves-none-out, C-opens, MovedC, C-moves}
+use Rattle.promises.specs.Cuts.{C-cuts}
+use Rattle.promises.specs.Linked.{refusalIn, lengthIn, statusIn, movedIn, verdictBy, seen, CCall, OpenC, CommandC, MoveC, CutC, cutStoresIn, imageAfterMoveC, afterCallC, afterC, addedC, additionsC, historyC, C-sees, MalformedC, C-malformed, KeptC, C-says-no, C-gets-word, C-holds, C-number-kept, C-reads-history, C-leaves-none-out, C-opens, MovedC, C-moves}
 use Rattle.promises.proofs.Keeping.{put-rest, step-kept}
 use Rattle.promises.proofs.Saying.{gets-word, step-status}
 use Rattle.promises.proofs.Growing.{refused-none, calls-held, number-kept}
@@ -269,6 +272,7 @@ meaning : CCall → Call
 meaning (OpenC rights ses) = Open rights
 meaning (CommandC ses cmd buf) = ifElse (isSession ses) (Command (sessionIn ses) cmd buf) (Open [])
 meaning (MoveC list t) = Move list t
+meaning (CutC ses cmd n) = ifElse (isSession ses) (Cut (sessionIn ses) cmd n) (Open [])
 
 meanings : List CCall → List Call
 meanings [] = []
@@ -287,6 +291,35 @@ imageAfterMove-same (MoveRefused w) t img h =
     ap (λ (b : Bool). ifElse b (take (movedIn (moveRefusalNumber w * 4294967296)) t) img)
     (ne-eqb (refusalIn (moveRefusalNumber w * 4294967296)) 0 (λ e. omega (arith, e, refused-refusal (moveRefusalNumber w), moveRefusalNumber-some w)))
 
+-- a cut in the session that the bytes are, and where they are none
+module _ (img ses cmd : List ℕ) (n : ℕ) where
+  pub cut-image : isSession ses ≡ true → calledCut img ses cmd n .image ≡ cut img (sessionIn ses) cmd n .image
+  unfolding calledCut
+  cut-image y = simp y
+
+  pub cut-image-kept : isSession ses ≡ false → calledCut img ses cmd n .image ≡ img
+  unfolding calledCut
+  cut-image-kept e = simp e
+
+  -- the result tells how many stores there are
+  pub cut-told : isSession ses ≡ true → cutStoresIn (calledCut img ses cmd n .result) ≡ cut img (sessionIn ses) cmd n .answer .stores
+  unfolding calledCut cutStoresIn cutResult
+  cut-told y = simp y (let l = cut-stores-small img (sessionIn ses) cmd n in omega (arith, l))
+
+  pub cut-told-none : isSession ses ≡ false → cutStoresIn (calledCut img ses cmd n .result) ≡ 0
+  unfolding calledCut cutStoresIn cutResult
+  cut-told-none e = simp e (omega arith)
+
+pub c-cuts : C-cuts
+unfolding calledCut cutResult refusalIn verdict verdictNumber refusalNumber
+c-cuts img ses cmd n =
+    record {
+      refusal = λ y. simp y (omega arith);
+      stores = cut-told img ses cmd n;
+      image = cut-image img ses cmd n;
+      malformed = λ e. (simp e (by-cases (wellFormed img) (λ w. simp w (List·Memᴰ·tail (List·Memᴰ·head refl))) (λ w. simp w (List·Memᴰ·head refl))), cut-image-kept img ses cmd n e);
+    }
+
 afterCall-same : (img : List ℕ) (c : CCall) → afterCallC img c ≡ afterCall img (meaning c)
 unfolding afterCallC afterCall meaning
 afterCall-same img (OpenC rights ses) = refl
@@ -295,15 +328,20 @@ afterCall-same img (CommandC ses cmd buf) =
     (λ y. simp y (ap (λ (c : Called). c .image) (called-session img ses cmd buf y)))
     (λ n. simp n (c-malformed img ses cmd buf n .kept .0))
 afterCall-same img (MoveC list t) = imageAfterMove-same (moveCard img list (length t)) (moveCardInto img list t) img (moveCard-numbered img list (length t))
+afterCall-same img (CutC ses cmd n) = by-cases (isSession ses) (λ y. simp y (cut-image img ses cmd n y)) (λ e. simp e (cut-image-kept img ses cmd n e))
 
 added-same : (k : ℕ) (img : List ℕ) (c : CCall) → addedC k img c ≡ added k img (meaning c)
-unfolding addedC added meaning
+unfolding addedC added meaning allOf
 added-same k img (OpenC rights ses) = refl
 added-same k img (CommandC ses cmd buf) =
     by-cases (isSession ses)
     (λ y. simp y (ap (λ (w : ℕ). addedBy k (sessionIn ses) cmd w (shapeOf cmd)) (status-seen img ses cmd buf y)))
     (λ n. simp n (ap (λ (w : ℕ). addedBy k (sessionIn ses) cmd w (shapeOf cmd)) (c-malformed img ses cmd buf n .nothing .1) ∙ refused-none img (sessionIn ses) cmd (shapeOf cmd) k))
 added-same k img (MoveC list t) = refl
+added-same k img (CutC ses cmd n) =
+    by-cases (isSession ses)
+    (λ y. simp y (ap (λ (m : ℕ). addedByCut k (sessionIn ses) cmd m n) (cut-told img ses cmd n y)))
+    (λ e. simp e (ap (λ (m : ℕ). addedByCut k (sessionIn ses) cmd m n) (cut-told-none img ses cmd n e)))
 
 after-same : (img : List ℕ) (cs : List CCall) → afterC img cs ≡ after img (meanings cs)
 unfolding afterC after meanings

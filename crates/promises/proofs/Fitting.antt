@@ -50,7 +50,7 @@ use Rattle.machine_reply_search.proofs.Matching.{first-match, hits-first, none-
 use Rattle.machine_answer.specs.Outcome.{Outcome, says}
 use Rattle.machine.specs.Effects.{searched, done}
 use Rattle.machine.specs.Step.{verdictOn, stepBy, step, opening}
-use Rattle.promises.specs.Calls.{Command, afterCall, after, history}
+use Rattle.promises.specs.Calls.{Call, Command, afterCall, after, history}
 use Rattle.promises.specs.Promises.{Stays-accepted, Answer-fits, Opening-fits}
 use Rattle.promises.proofs.Growing.{accepts, call-grown, calls-held}
 
@@ -238,6 +238,12 @@ unfolding step afterCall
 answer-fits img s cmd buf o e =
     let g = call-grown img (Command s cmd buf) o in
     stepBy-fits img s cmd buf o e (verdictOn img s (length buf)) (record { files = g .files; counts = λ k b. more-records img _ k _ (g .records k b) })
+
+-- a session that fits still fits after any call
+pub call-fits : (img : List ℕ) (c : Call) (t : Session) → wellFormed img ≡ true → sessionFits img t ≡ true → sessionFits (afterCall img c) t ≡ true
+call-fits img c t o e =
+    let g = call-grown img c o in
+    fits-on (record { files = g .files; counts = λ k b. more-records img _ k _ (g .records k b) }) t e
 
 pub stays-accepted : Stays-accepted
 unfolding verdict verdictNumber history

@@ -1,21 +1,21 @@
 -- What calls do to the records of each file. Read ../specs/Calls.antt before. Exports `call-grown`, `calls-held`, `number-kept`.
-use Prim.Native.Nat.{ℕ, _+_, _/_, _≤_}
+use Prim.Native.Nat.{ℕ, _+_, _/_, _≤_, _<_}
 use mathlib.Core.Path.{_≡_, refl, sym, ap, ap₂, subst, _∙_}
 use mathlib.Core.Bool.{Bool, true, false}
 use mathlib.Core.List.{List, [], _∷_, _++_, append-nil, append-assoc}
 use native.Mathlib.Omega.{arith}
 use lib.ListN.{length, drop, length-take}
-use lib.Dec.{eqb, ltb}
-use borrow.Author.Tests.{eqb-true, eqb-false, eq-eqb, leb-true, ltb-true, le-leb}
+use lib.Dec.{leb, eqb, ltb}
+use borrow.Author.Tests.{eqb-true, eqb-false, eq-eqb, leb-true, leb-false, ltb-true, le-leb}
 use Rattle.base.specs.Choice.{ifElse, allOf}
 use Rattle.base.specs.Bytes.{part}
 use Rattle.base.proofs.Cases.{by-cases, ifElse-ind, false-true, allOf-facts, allOf-accepted}
 use Rattle.store_records.specs.Body.{nth}
 use Rattle.store_kinds.specs.Biometrics.{room, updatable}
 use Rattle.store_kinds.specs.Rules.{isBiometrics, biometricsKind}
-use Rattle.store_image.specs.Image.{has, body, wellFormed, recordsOf, appendTo, updateIn}
+use Rattle.store_image.specs.Image.{has, body, wellFormed, recordsOf, appendTo, updateIn, storesIn, makeStoresIn}
 use Rattle.store_kinds.specs.declared.rules.Rule.{Rule}
-use Rattle.store_image.proofs.Laws.{Accepts, Changed, append-changes, append-list, records-kept, biometrics-file, update-changes, activate-changes, nth-kept}
+use Rattle.store_image.proofs.Laws.{Accepts, Changed, append-changes, append-list, records-kept, biometrics-file, update-changes, activate-changes, append-all, activate-all, none-made, append-stores, cut-changes, cut-list, nth-kept}
 use Rattle.store_files.specs.declared.File.the-variants.{RecordFile}
 use Rattle.objects_templates.specs.declared.Writes.{Writes}
 use Rattle.objects_templates.specs.declared.Search.{Search}
@@ -38,10 +38,14 @@ use Rattle.machine_dispatch.proofs.Allowing.{Pair, Appends, Writable, From, Fro
 use Rattle.machine_answer.specs.Outcome.{Outcome, says}
 use Rattle.machine.specs.Effects.{searched, done}
 use Rattle.machine.specs.Step.{verdictOn, stepBy, step}
+use Rattle.machine_session.specs.Session.{sessionFits}
+use Rattle.machine_session.specs.Verdict.{verdict}
+use Rattle.store_cut.specs.declared.Writing.the-variants.{Record, State}
+use Rattle.machine_cut.specs.Cutting.{storing, cutStores, cutImage, cutBy, cut}
 use Rattle.store_move.specs.Moving.{moveCard, moveCardInto}
 use Rattle.store_move.specs.declared.Moved.{Moved}
 use Rattle.store_move.specs.declared.Moved.the-variants.{Image, Refused as MoveRefused}
-use Rattle.promises.specs.Calls.{Call, Open, Command, Move, imageAfterMove, afterCall, after, isPair, addedBy, added, additions, history}
+use Rattle.promises.specs.Calls.{Call, Open, Command, Move, Cut, imageAfterMove, afterCall, after, isPair, addedBy, added, additions, history}
 use Rattle.promises.specs.Files.{isMeantKind}
 use Rattle.promises.specs.Promises.{Holds, Number-kept}
 use Rattle.promises.proofs.Naming.{record-meant, record-listed, p2-meant, kind-meant}
@@ -215,13 +219,119 @@ move-grown img list t o = go (moveCard img list (length t)) refl
         let c = move-done img list t n e in
         record { well = c .well; files = c .files; records = λ k b. c .records k b ∙ sym (append-nil (recordsOf img k)) }
 
+-- ---- a command that is cut
+
+grown-as : {img new last : List ℕ} {more most : ℕ → List (List ℕ)} → last ≡ new → ((k : ℕ) → most k ≡ more k) → Grown img new more → Grown img last most
+grown-as {img} e n g =
+    record {
+      well = ap wellFormed e ∙ g .well;
+      files = λ k h. ap (λ (l : List ℕ). has l k) e ∙ g .files k h;
+      records = λ k b. ap (λ (l : List ℕ). recordsOf l k) e ∙ g .records k b ∙ ap (λ (l : List (List ℕ)). recordsOf img k ++ l) (sym (n k));
+    }
+
+module _ (img : List ℕ) (s : Session) (cmd : List ℕ) (n : ℕ) (o : wellFormed img ≡ true) where
+  -- what is counted of a cut that has m stores, where the command has the shape a
+  counted : ℕ → Apdu → ℕ → List (List ℕ)
+  counted m a k = ifElse (allOf (leb 1 m ∷ leb m n ∷ [])) (addedBy k s cmd 0x9000 a) []
+
+  -- nothing where there are none, where the command adds nothing, and where the last is not made
+  counted-none : (a : Apdu) (k : ℕ) → counted 0 a k ≡ []
+  unfolding counted allOf
+  counted-none a k = refl
+
+  counted-other : (m : ℕ) (a : Apdu) (k : ℕ) → addedBy k s cmd 0x9000 a ≡ [] → counted m a k ≡ []
+  unfolding counted
+  counted-other m a k e = ifElse-ind (λ (l : List (List ℕ)). l ≡ []) (allOf (leb 1 m ∷ leb m n ∷ [])) (λ t. e) (λ t. refl)
+
+  counted-less : (m : ℕ) (a : Apdu) (k : ℕ) → n < m → counted m a k ≡ []
+  unfolding counted
+  counted-less m a k h =
+      ifElse-ind (λ (l : List (List ℕ)). l ≡ []) (allOf (leb 1 m ∷ leb m n ∷ []))
+      (λ t. absurd (omega (arith, h, leb-true m n (allOf-facts _ t .1 .0))))
+      (λ t. refl)
+
+  counted-all : (m : ℕ) (a : Apdu) (k : ℕ) → 1 ≤ m → m ≤ n → counted m a k ≡ addedBy k s cmd 0x9000 a
+  unfolding counted
+  counted-all m a k h i = ap (λ (b : Bool). ifElse b (addedBy k s cmd 0x9000 a) []) (allOf-accepted (leb 1 m ∷ leb m n ∷ []) (le-leb 1 m h, (le-leb m n i, tt)))
+
+  -- an append: all of its stores are made, or the last is not
+  append-cut-grown : (f : Frame) (r : Rule) → let d = part cmd (f .from) (f .lc) in From img s f d (AppendRecord r)
+      → Grown img (makeStoresIn n img (r .kind) Record d) (counted (length (storesIn img (r .kind) Record d)) (Good f))
+  append-cut-grown f r h =
+      by-cases (leb (length d + 4) n)
+      (λ e. grown-as (append-all img (r .kind) d n (leb-true (length d + 4) n e)) (λ k. counted-all m (Good f) k (omega (arith, many)) (omega (arith, many, leb-true (length d + 4) n e))) (appends-grown img s cmd [] o f r h))
+      (λ e. grown-less (leb-false (length d + 4) n e))
+    where
+      d : List ℕ
+      d = part cmd (f .from) (f .lc)
+
+      m : ℕ
+      m = length (storesIn img (r .kind) Record d)
+
+      a : Accepts img (r .kind) r (length d)
+      a = accepts img s cmd [] o d r (h .2)
+
+      many : m ≡ length d + 4
+      many = append-stores img (r .kind) r d o a
+
+      grown-less : n < length d + 4 → Grown img (makeStoresIn n img (r .kind) Record d) (counted m (Good f))
+      grown-less l =
+          let c = cut-changes img (r .kind) r d o a n l in
+          let none : (k : ℕ) → recordsOf img k ++ [] ≡ recordsOf img k ++ counted m (Good f) k = λ k. ap (λ (x : List (List ℕ)). recordsOf img k ++ x) (sym (counted-less m (Good f) k (omega (arith, many, l)))) in
+          record {
+            well = c .well;
+            files = λ k y. c .same-files k ∙ y;
+            records = λ k b. by-cases (eqb k (r .kind))
+                (λ e. subst (λ (j : ℕ). recordsOf (makeStoresIn n img (r .kind) Record d) j ≡ recordsOf img j) (sym (eqb-true k (r .kind) e)) (cut-list img (r .kind) r d o a n l))
+                (λ e. records-kept img (makeStoresIn n img (r .kind) Record d) (r .kind) c k (eqb-false k (r .kind) e))
+                ∙ sym (append-nil (recordsOf img k)) ∙ none k;
+          }
+
+  -- an activation: its store is made or not
+  activate-cut-grown : (f : Frame) (b : ℕ) → let d = part cmd (f .from) (f .lc) in From img s f d (Activate b)
+      → Grown img (makeStoresIn n img (biometricsKind b) State d) (counted (length (storesIn img (biometricsKind b) State d)) (Good f))
+  unfolding allOf
+  activate-cut-grown f b h =
+      let d = part cmd (f .from) (f .lc) in
+      let i = h .1 .file .ok in
+      let none : (k : ℕ) → counted (length (storesIn img (biometricsKind b) State d)) (Good f) k ≡ [] = λ k. counted-other (length (storesIn img (biometricsKind b) State d)) (Good f) k (by-pair img s cmd f 0x9000 0x00 0x44 (h .0) refl k) in
+      by-cases (leb 1 n)
+      (λ e. grown-as (activate-all img (biometricsKind b) d n (leb-true 1 n e)) (λ k. refl) (grown-changed img o _ (biometricsKind b) (i .kind) (activate-changes img (biometricsKind b) o (i .kind) (i .stands)) none))
+      (λ e. let z : n ≡ 0 = omega (arith, leb-false 1 n e) in
+      grown-none img o (ap (λ (j : ℕ). makeStoresIn j img (biometricsKind b) State d) z ∙ none-made img (biometricsKind b) State d) none)
+
+  storing-grown : (f : Frame) (x : Action) → let d = part cmd (f .from) (f .lc) in From img s f d x
+      → Grown img (cutImage n (storing x) img d) (counted (cutStores (storing x) img d) (Good f))
+  storing-grown f (Status w) h = grown-none img o refl (counted-none (Good f))
+  storing-grown f (SelectApplication a) h = grown-none img o refl (counted-none (Good f))
+  storing-grown f (SelectFile g) h = grown-none img o refl (counted-none (Good f))
+  storing-grown f (ReadBinary t a b) h = grown-none img o refl (counted-none (Good f))
+  storing-grown f (UpdateBinary b w) h = grown-none img o refl (counted-none (Good f))
+  storing-grown f (Activate b) h = activate-cut-grown f b h
+  storing-grown f (AppendRecord r) h = append-cut-grown f r h
+  storing-grown f (ReadRecord r a b) h = grown-none img o refl (counted-none (Good f))
+  storing-grown f (SearchRecord r q ne) h = grown-none img o refl (counted-none (Good f))
+  storing-grown f (Report g p2) h = grown-none img o refl (counted-none (Good f))
+  storing-grown f (ReadBinaryOdd t a b) h = grown-none img o refl (counted-none (Good f))
+
+  shape-cut-grown : (a : Apdu) (x : Action) → FromShape img s cmd a x → Grown img (cutImage n (storing x) img (dataBy cmd a)) (counted (cutStores (storing x) img (dataBy cmd a)) a)
+  shape-cut-grown Bad x h =
+      subst (λ (y : Action). Grown img (cutImage n (storing y) img []) (counted (cutStores (storing y) img []) Bad)) (sym h) (grown-none img o refl (counted-none Bad))
+  shape-cut-grown (Good f) x h = storing-grown f x h
+
+  cutBy-grown : (v : Verdict) → let c = cutBy v img s cmd n in Grown img (c .image) (counted (c .answer .stores) (shapeOf cmd))
+  unfolding dataOf
+  cutBy-grown Accepted = shape-cut-grown (shapeOf cmd) (decide img s cmd) (decide-from img s cmd)
+  cutBy-grown (Refused r) = grown-none img o refl (counted-none (shapeOf cmd))
+
 -- ---- calls, one after the other
 
 pub call-grown : (img : List ℕ) (c : Call) → wellFormed img ≡ true → Grown img (afterCall img c) (λ k. added k img c)
-unfolding afterCall added step
+unfolding afterCall added step cut counted
 call-grown img (Open rights) o = grown-none img o refl (λ k. refl)
 call-grown img (Command s cmd buf) o = stepBy-grown img s cmd buf o (verdictOn img s (length buf))
 call-grown img (Move list t) o = move-grown img list t o
+call-grown img (Cut s cmd n) o = cutBy-grown img s cmd n o (verdict img (sessionFits img s) 2050)
 
 pub calls-held : Holds
 unfolding after additions history

@@ -8,11 +8,11 @@ use mathlib.Core.List.{List, [], _∷_, _++_, append-assoc, append-nil}
 use native.Mathlib.Omega.{arith}
 use lib.ListN.{length, getD, take, drop, set, length-set, length-append}
 use lib.Seq.{length-sets, getD-set-same, getD-set-other}
-use lib.Dec.{eqb}
+use lib.Dec.{leb, eqb}
 use borrow.Author.Tests.{eqb-true, eqb-false}
 use Rattle.base.specs.Choice.{ifElse, allOf}
 use Rattle.base.specs.Bytes.{part, AllBytes}
-use Rattle.base.proofs.Cases.{false-true, by-cases}
+use Rattle.base.proofs.Cases.{false-true, by-cases, ifElse-ind}
 use Rattle.base.proofs.Runs.{drop-sets-past}
 use Rattle.store_records.specs.Little.{le16}
 use Rattle.store_records.specs.Body.{count, place, records, nth}
@@ -34,11 +34,11 @@ use Rattle.machine_apdu.specs.declared.Apdu.the-variants.{Bad, Good}
 use Rattle.machine_apdu.specs.declared.Frame.{Frame}
 use Rattle.machine_answer.specs.Outcome.{Outcome}
 use Rattle.machine_session_bytes.specs.Layout.{sessionIn}
-use Rattle.malquindo.specs.Face.{called, indexResult}
+use Rattle.malquindo.specs.Face.{called, calledCut, indexResult}
 use Rattle.promises.specs.Files.{isMeantRow, isMeantKind}
 use Rattle.promises.specs.Calls.{isPair, addedBy}
 use Rattle.promises.specs.Promises.{dataIn, Reads}
-use Rattle.promises.specs.Linked.{refusalIn, statusIn, seen, CCall, OpenC, CommandC, MoveC, afterCallC, afterC, addedC, additionsC, historyC}
+use Rattle.promises.specs.Linked.{refusalIn, statusIn, seen, CCall, OpenC, CommandC, MoveC, CutC, cutStoresIn, afterCallC, afterC, addedC, additionsC, historyC}
 use Rattle.promises.specs.Bodies.{lentBody}
 use Rattle.promises.specs.Index.{indexedIn, BuildC, C-index-builds, ExtendC, C-index-extends, Readable, ReadC, C-index-reads, CallerIndex, builtC, extendedC, indexAfterC, indexReadResult, indexBytes, ReadsRecords, C-index-kept, C-index-room, numberAsked, C-index-replies}
 use Rattle.promises.proofs.Naming.{kind-meant}
@@ -193,6 +193,9 @@ unfolding addedC
 added-few k img (OpenC rights ses) = omega arith
 added-few k img (CommandC ses cmd buf) = addedBy-few k (sessionIn ses) cmd (statusIn (called img ses cmd buf .result)) (shapeOf cmd)
 added-few k img (MoveC list t) = omega arith
+added-few k img (CutC ses cmd n) =
+    let m = cutStoresIn (calledCut img ses cmd n .result) in
+    ifElse-ind (λ (l : List (List ℕ)). length l ≤ 1) (allOf (leb 1 m ∷ leb m n ∷ [])) (λ t. addedBy-few k (sessionIn ses) cmd 0x9000 (shapeOf cmd)) (λ t. omega arith)
 
 -- two indexes with the same list and as many places
 kept-same : {l m : List ℕ} {i j : ℕ} → l ≡ m → i ≡ j → _≡_ {A = CallerIndex} (record { entries = l; filled = i }) (record { entries = m; filled = j })

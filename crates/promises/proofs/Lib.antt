@@ -14,6 +14,9 @@ pub mod Spelling
 pub mod Doing
 pub mod Binary
 pub mod Fitting
+pub mod Cuts
+pub mod InOrder
+pub mod Room
 pub mod Linking
 pub mod Calling
 pub mod Bodies

@@ -1,9 +1,10 @@
--- The theorems: each proves the promise of its name in ../specs/Promises.antt, Done.antt, Binary.antt, Linked.antt, Bodies.antt,
+-- The theorems: each proves the promise of its name in ../specs/Promises.antt, Done.antt, Binary.antt, Linked.antt, Cuts.antt, Bodies.antt,
 -- Certificates.antt, Index.antt, Stamps.antt or Rights.antt.
 use Rattle.promises.specs.Promises.{Says-no, Gets-word, Opens, Holds, Number-kept, Reads-history, Leaves-none-out, Only-searches, Search-refused, Both-spellings, Stays-accepted, Answer-fits, Opening-fits, Session-bytes, Opening-bytes, Result-whole, Move-says-no, Move-done, Same-sizes, Move-twice, Move-whole}
 use Rattle.promises.specs.Done.{Append-done, Update-done, Activate-done, Read-done, Read-odd-done, Select-done, Fmm-done}
 use Rattle.promises.specs.Binary.{Both-reads, Odd-reaches}
 use Rattle.promises.specs.Linked.{C-sees, C-malformed, C-says-no, C-gets-word, C-holds, C-number-kept, C-reads-history, C-leaves-none-out, C-opens, C-moves}
+use Rattle.promises.specs.Cuts.{Cut-stores, Cut-leaves, Append-in-order, Activate-in-order, Room-used, C-cuts}
 use Rattle.promises.specs.Bodies.{C-file, C-file-stays}
 use Rattle.promises.specs.Certificates.{C-certificate, C-certificate-kept}
 use Rattle.promises.specs.Index.{C-index-builds, C-index-extends, C-index-reads, C-index-kept, C-index-room, C-index-replies}
@@ -23,6 +24,9 @@ use Rattle.promises.proofs.Deciding as deciding
 use Rattle.promises.proofs.Searching as searching
 use Rattle.promises.proofs.Spelling as spelling
 use Rattle.promises.proofs.Fitting as fitting
+use Rattle.promises.proofs.Cuts as cuts
+use Rattle.promises.proofs.InOrder as in-order
+use Rattle.promises.proofs.Room as room
 use Rattle.promises.proofs.Linking as linking
 use Rattle.promises.proofs.Calling as calling
 use Rattle.promises.proofs.Bodies as bodies
@@ -150,6 +154,24 @@ c-opens = calling.c-opens
 
 pub c-moves : C-moves
 c-moves = calling.c-moves
+
+pub cut-stores : Cut-stores
+cut-stores = cuts.cut-stores
+
+pub cut-leaves : Cut-leaves
+cut-leaves = cuts.cut-leaves
+
+pub append-in-order : Append-in-order
+append-in-order = in-order.append-in-order
+
+pub activate-in-order : Activate-in-order
+activate-in-order = in-order.activate-in-order
+
+pub room-used : Room-used
+room-used = room.room-used
+
+pub c-cuts : C-cuts
+c-cuts = calling.c-cuts
 
 pub c-file : C-file
 c-file = bodies.c-file

@@ -3,7 +3,7 @@ use Prim.Native.Nat.{ℕ, _/_}
 use mathlib.Core.Bool.{Bool}
 use mathlib.Core.List.{List, [], _∷_, _++_}
 use lib.ListN.{length, take}
-use lib.Dec.{eqb}
+use lib.Dec.{leb, eqb}
 use Rattle.base.specs.Choice.{ifElse, allOf}
 use Rattle.base.specs.Bytes.{part}
 use Rattle.store_image.specs.Image.{recordsOf}
@@ -13,28 +13,31 @@ use Rattle.machine_apdu.specs.declared.Apdu.{Apdu}
 use Rattle.machine_apdu.specs.declared.Apdu.the-variants.{Bad, Good}
 use Rattle.machine_apdu.specs.declared.Frame.{Frame}
 use Rattle.machine.specs.Step.{step}
+use Rattle.machine_cut.specs.Cutting.{cut}
 use Rattle.store_move.specs.Moving.{moveCard, moveCardInto}
 use Rattle.store_move.specs.declared.Moved.{Moved}
 use Rattle.store_move.specs.declared.Moved.the-variants.{Image, Refused}
 use Rattle.promises.specs.Files.{isMeantKind}
 
--- an opening with the rights of three certificates, a command with any session and any response buffer, or a move by a list of rooms into
--- any target [C3]
+-- an opening with the rights of three certificates, a command with any session and any response buffer, a move by a list of rooms into
+-- any target, or a command with any session that is cut behind any number of its stores [C3]
 pub data Call : Type 0 where
   Open : List ℕ → Call
   Command : Session → List ℕ → List ℕ → Call
   Move : List ℕ → List ℕ → Call
+  Cut : Session → List ℕ → ℕ → Call
 
 -- the card goes on as the new image, which is the first bytes of the target t; where the move is refused it goes on as it was [M14]
 abbrev pub imageAfterMove : Moved → List ℕ → List ℕ → List ℕ
 imageAfterMove (Image n) t img = take n t
 imageAfterMove (Refused w) t img = img
 
--- the image after a call; opening has no image [C3] [M14]
+-- the image after a call; opening has no image [C3] [M14] [CU5]
 unfoldable pub afterCall : List ℕ → Call → List ℕ
 afterCall img (Open rights) = img
 afterCall img (Command s cmd buf) = step img s cmd buf .image
 afterCall img (Move list t) = imageAfterMove (moveCard img list (length t)) (moveCardInto img list t) img
+afterCall img (Cut s cmd n) = cut img s cmd n .image
 
 -- the image after calls, one after the other [C3]
 unfoldable pub after : List ℕ → List Call → List ℕ
@@ -52,17 +55,23 @@ addedBy k s cmd w Bad = []
 addedBy k s cmd w (Good f) =
     ifElse (allOf (isPair f 0x00 0xE2 ∷ eqb w 0x9000 ∷ isMeantKind s (f .header .p2 / 8) k ∷ [])) (part cmd (f .from) (f .lc) ∷ []) []
 
+-- what a command adds that has m stores and is cut behind n of them: what it adds where all are made, and so its count was stored; else
+-- nothing [C7] [CU7]
+abbrev pub addedByCut : ℕ → Session → List ℕ → ℕ → ℕ → List (List ℕ)
+addedByCut k s cmd m n = ifElse (allOf (leb 1 m ∷ leb m n ∷ [])) (addedBy k s cmd 0x9000 (shapeOf cmd)) []
+
 -- what a call adds; a move adds nothing [C7] [M15]
 unfoldable pub added : ℕ → List ℕ → Call → List (List ℕ)
 added k img (Open rights) = []
 added k img (Command s cmd buf) = addedBy k s cmd (step img s cmd buf .answer .status) (shapeOf cmd)
 added k img (Move list t) = []
+added k img (Cut s cmd n) = addedByCut k s cmd (cut img s cmd n .answer .stores) n
 
 -- what calls add, in order [C7]
 unfoldable pub additions : ℕ → List ℕ → List Call → List (List ℕ)
 additions k img [] = []
 additions k img (c ∷ cs) = added k img c ++ additions k (afterCall img c) cs
 
--- the list of a file: its first records, then every append that was answered 9000 [C7]
+-- the list of a file: its first records, then every append that was answered 9000, or cut behind its last store [C7]
 unfoldable pub history : ℕ → List ℕ → List Call → List (List ℕ)
 history k img cs = recordsOf img k ++ additions k img cs

@@ -117,7 +117,7 @@ extendedC k img (d ∷ ds) x =
       filled = indexedIn (indexResult (extend k (lentBody img k) (x .entries) (x .filled)));
     }
 
--- over calls: extended after each APPEND RECORD to the file that is answered 9000 (`addedC`) [R15]
+-- over calls: extended after each APPEND RECORD to the file that counts: answered 9000, or cut behind its last store (`addedC`) [R15]
 unfoldable pub indexAfterC : ℕ → List ℕ → CallerIndex → List CCall → CallerIndex
 indexAfterC k img x [] = x
 indexAfterC k img x (c ∷ cs) = indexAfterC k (afterCallC img c) (extendedC k (afterCallC img c) (addedC k img c) x) cs

@@ -7,6 +7,7 @@ pub mod Promises
 pub mod Done
 pub mod Binary
 pub mod Linked
+pub mod Cuts
 pub mod Bodies
 pub mod Certificates
 pub mod Index

@@ -24,12 +24,12 @@ use Rattle.machine_apdu.specs.declared.Frame.{Frame}
 use Rattle.machine_answer.specs.Outcome.{Outcome, outcome}
 use Rattle.machine.specs.Step.{step}
 use Rattle.machine_session_bytes.specs.Layout.{isSession, sessionIn}
-use Rattle.malquindo.specs.Face.{openResult, openSession, Called, called, moveResult}
+use Rattle.malquindo.specs.Face.{openResult, openSession, Called, called, CalledCut, calledCut, moveResult}
 use Rattle.store_move.specs.Moving.{moveCard, moveCardInto}
-use Rattle.promises.specs.Calls.{isPair, addedBy}
+use Rattle.promises.specs.Calls.{isPair, addedBy, addedByCut}
 use Rattle.promises.specs.Promises.{Kept, Answered, Reads, Searching, Names, MovedCard}
 
--- ---- results: `malquindo_refusal`, `malquindo_length`, `malquindo_status`, `malquindo_moved`
+-- ---- results: `malquindo_refusal`, `malquindo_length`, `malquindo_status`, `malquindo_moved`, `malquindo_stores`
 
 -- [X3]
 unfoldable pub refusalIn : ℕ → ℕ
@@ -46,6 +46,10 @@ statusIn r = r % 65536
 -- [X6]
 unfoldable pub movedIn : ℕ → ℕ
 movedIn r = r % 4294967296
+
+-- how many stores the result of `malquindo_cut` tells; 0 on a refusal [X16]
+unfoldable pub cutStoresIn : ℕ → ℕ
+cutStoresIn r = r % 4294967296
 
 -- the verdict of a number [X7]
 unfoldable pub verdictBy : ℕ → Verdict
@@ -69,11 +73,12 @@ seen c =
 -- ---- calls
 
 -- an opening with any rights and any session buffer; a command with any session bytes, any command and any response buffer; a move by a
--- list of rooms into any target [X8]
+-- list of rooms into any target; a cut with any session bytes, any command and any number of stores [X8]
 pub data CCall : Type 0 where
   OpenC : List ℕ → List ℕ → CCall
   CommandC : List ℕ → List ℕ → List ℕ → CCall
   MoveC : List ℕ → List ℕ → CCall
+  CutC : List ℕ → List ℕ → ℕ → CCall
 
 -- after a move with the result r: the card goes on as the new image, the first bytes of the target t, unless the move was refused [X8]
 unfoldable pub imageAfterMoveC : ℕ → List ℕ → List ℕ → List ℕ
@@ -84,6 +89,7 @@ unfoldable pub afterCallC : List ℕ → CCall → List ℕ
 afterCallC img (OpenC rights ses) = img
 afterCallC img (CommandC ses cmd buf) = called img ses cmd buf .image
 afterCallC img (MoveC list t) = imageAfterMoveC (moveResult (moveCard img list (length t))) (moveCardInto img list t) img
+afterCallC img (CutC ses cmd n) = calledCut img ses cmd n .image
 
 -- and after calls, one after the other [X8]
 unfoldable pub afterC : List ℕ → List CCall → List ℕ
@@ -95,6 +101,7 @@ unfoldable pub addedC : ℕ → List ℕ → CCall → List (List ℕ)
 addedC k img (OpenC rights ses) = []
 addedC k img (CommandC ses cmd buf) = addedBy k (sessionIn ses) cmd (statusIn (called img ses cmd buf .result)) (shapeOf cmd)
 addedC k img (MoveC list t) = []
+addedC k img (CutC ses cmd n) = addedByCut k (sessionIn ses) cmd (cutStoresIn (calledCut img ses cmd n .result)) n
 
 -- [X8]
 unfoldable pub additionsC : ℕ → List ℕ → List CCall → List (List ℕ)

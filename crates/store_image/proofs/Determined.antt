@@ -11,12 +11,10 @@ use Rattle.store_image.proofs.present.Kinds as present-kinds
 use Rattle.store_image.proofs.present.Reads as present-reads
 use Rattle.store_image.proofs.well_formed.Kinds as well-formed-kinds
 use Rattle.store_image.proofs.well_formed.Reads as well-formed-reads
-use Rattle.store_image.proofs.append.Kinds as append-kinds
-use Rattle.store_image.proofs.append.Reads as append-reads
+use Rattle.store_image.proofs.make_stores.Kinds as make-stores-kinds
+use Rattle.store_image.proofs.make_stores.Reads as make-stores-reads
 use Rattle.store_image.proofs.update.Kinds as update-kinds
 use Rattle.store_image.proofs.update.Reads as update-reads
-use Rattle.store_image.proofs.activate.Kinds as activate-kinds
-use Rattle.store_image.proofs.activate.Reads as activate-reads
 
 pub find-determined : Determined find-kinds.ps find-kinds.r find-reads.Post
 find-determined κs a e f p q i = ((p ∙ sym q) i, e .1)
@@ -33,11 +31,8 @@ present-determined κs a e f p q i = ((p ∙ sym q) i, e .1)
 pub well-formed-determined : Determined well-formed-kinds.ps well-formed-kinds.r well-formed-reads.Post
 well-formed-determined κs a e f p q i = ((p ∙ sym q) i, e .1)
 
-pub append-determined : Determined append-kinds.ps append-kinds.r append-reads.Post
-append-determined κs a e f p q i = ((p .0 ∙ sym (q .0)) i, ((p .1 ∙ sym (q .1)) i, (tt, (tt, tt))))
+pub make-stores-determined : Determined make-stores-kinds.ps make-stores-kinds.r make-stores-reads.Post
+make-stores-determined κs a e f p q i = ((p .0 ∙ sym (q .0)) i, ((p .1 ∙ sym (q .1)) i, (tt, (tt, (tt, (tt, tt))))))
 
 pub update-determined : Determined update-kinds.ps update-kinds.r update-reads.Post
 update-determined κs a e f p q i = ((p .0 ∙ sym (q .0)) i, ((p .1 ∙ sym (q .1)) i, (tt, (tt, (tt, tt)))))
-
-pub activate-determined : Determined activate-kinds.ps activate-kinds.r activate-reads.Post
-activate-determined κs a e f p q i = ((p .0 ∙ sym (q .0)) i, ((p .1 ∙ sym (q .1)) i, (tt, tt)))

@@ -19,7 +19,10 @@ use Rattle.store_records.specs.Body.{count, behind, place, recordAt, records, n
 use Rattle.store_kinds.specs.Biometrics.{state, written, room, writtenBytes, bioOk, updated, update, activate}
 use Rattle.store_kinds.specs.Biometrics.{updatable as takesAt}
 use Rattle.store_kinds.specs.Rules.{hasKey, ruleOf, isBiometrics, applicationOf, kindOk}
-use Rattle.store_image.specs.Image.{lenAt, kindAt, find, has, present, wellFormed, body, recordsOf, withBody, appendTo, updateIn, activateIn}
+use Rattle.store_cut.specs.Stores.{makeStores}
+use Rattle.store_cut.specs.declared.Writing.{Writing}
+use Rattle.store_cut.specs.declared.Writing.the-variants.{Record, State}
+use Rattle.store_image.specs.Image.{lenAt, kindAt, find, has, present, wellFormed, body, recordsOf, withBody, appendTo, updateIn, activateIn, storesIn, makeStoresIn}
 use Rattle.store_kinds.specs.declared.rules.Key.{Key}
 use Rattle.store_kinds.specs.declared.rules.Key.the-variants.{Kind}
 use Rattle.store_kinds.specs.declared.rules.Rule.{Rule}
@@ -31,6 +34,8 @@ use Rattle.store_records.proofs.Appending as appending
 use Rattle.store_kinds.proofs.Updating as updating
 use Rattle.store_kinds.proofs.Table as table
 use Rattle.store_kinds.proofs.ByKind as by-kind
+use Rattle.store_cut.proofs.Making as making
+use Rattle.store_cut.proofs.Cuts as cuts
 use Rattle.store_image.proofs.Presence as presence
 use Rattle.store_image.proofs.Splicing as splicing
 use Rattle.store_image.proofs.Files as files
@@ -123,7 +128,7 @@ nth-last rs d = rw add-one (getD-append-seam rs d [] [])
 -- an append that a body can take: the list with the record behind it, in as many bytes, every place kept
 module _ (xs d : List ℕ) (t : appendable xs (length d) ≡ true) where
   appends : append xs d ≡ appended xs d
-  appends = sym (appending.append-accepted xs d (appended xs d) t refl .1)
+  appends = appending.append-accepted xs d t
 
   pub append-records : records (append xs d) ≡ records xs ++ (d ∷ [])
   append-records = ap records appends ∙ appending.appended-records xs d t
@@ -141,7 +146,7 @@ module _ (xs d : List ℕ) (t : appendable xs (length d) ≡ true) where
   append-wellFormed L M o few some short = ap (bodyOk L M) appends ∙ appending.appended-wellFormed xs d t L M o few some short
 
 pub append-refused : (xs d : List ℕ) → appendable xs (length d) ≡ false → append xs d ≡ xs
-append-refused xs d t = sym (appending.append-refused xs d t .1)
+append-refused = appending.append-refused
 
 -- ---- a biometrics body
 
@@ -172,7 +177,7 @@ update-refused xs off d t = sym (updating.update-refused xs off d t .1)
 -- an activation: the state becomes 1, and nothing else changes
 module _ (xs : List ℕ) (o : bioOk xs ≡ true) where
   activates : activate xs ≡ set xs 0 1
-  activates = sym (updating.activate-accepted xs o .1)
+  activates = updating.activate-accepted xs o
 
   pub activate-state : state (activate xs) ≡ 1
   activate-state = ap state activates ∙ updating.activated-state xs o
@@ -319,3 +324,62 @@ module _ (img : List ℕ) (k : ℕ) where
   pub activate-find : (j : ℕ) → find (activateIn img k) j ≡ find img j
   unfolding activateIn
   activate-find = files.withBody-find-same img k (activate (body img k)) (updating.activate-length (body img k))
+
+  pub stores-find : (n : ℕ) (w : Writing) (d : List ℕ) (j : ℕ) → find (makeStoresIn n img k w d) j ≡ find img j
+  unfolding makeStoresIn
+  stores-find n w d = files.withBody-find-same img k (makeStores n w (body img k) d) (making.makeStores-length n w (body img k) d)
+
+-- ---- the stores of an append and of an activation
+
+-- all of them are the command, whether or not the file can take it
+module _ (img : List ℕ) (k : ℕ) (d : List ℕ) (n : ℕ) where
+  pub append-all : length d + 4 ≤ n → makeStoresIn n img k Record d ≡ appendTo img k d
+  unfolding makeStoresIn appendTo
+  append-all h = ap (withBody img k) (cuts.append-made n (body img k) d (let f = cuts.append-stores-few (body img k) d in omega arith))
+
+  pub activate-all : 1 ≤ n → makeStoresIn n img k State d ≡ activateIn img k
+  unfolding makeStoresIn activateIn
+  activate-all h = ap (withBody img k) (cuts.activate-made n (body img k) d (let f = cuts.activate-stores-few (body img k) d in omega arith))
+
+pub none-made : (img : List ℕ) (k : ℕ) (w : Writing) (d : List ℕ) → makeStoresIn 0 img k w d ≡ img
+unfolding makeStoresIn
+none-made img k w d = ap (withBody img k) (cuts.none-made w (body img k) d) ∙ files.withBody-same img k
+
+-- there are fewer than 65,540
+pub stores-small : (img : List ℕ) (k : ℕ) (w : Writing) (d : List ℕ) → length (storesIn img k w d) < 65540
+unfolding storesIn
+stores-small img k w d = cuts.stores-small w (body img k) d
+
+-- an activation has one
+pub activate-stores : (img : List ℕ) (k : ℕ) (d : List ℕ) → wellFormed img ≡ true → isBiometrics k ≡ true → has img k ≡ true → length (storesIn img k State d) ≡ 1
+unfolding storesIn
+activate-stores img k d o b h = cuts.length-activate-stores (body img k) d (biometrics-file img k o b h)
+
+-- an append of n bytes has n + 4. Fewer of them leave the list of the file's records, how many they are and the bytes they use, in an image
+-- that is well formed
+module _ (img : List ℕ) (k : ℕ) (r : Rule) (d : List ℕ) (o : wellFormed img ≡ true) (a : Accepts img k r (length d)) where
+  pub append-stores : length (storesIn img k Record d) ≡ length d + 4
+  unfolding storesIn
+  append-stores = cuts.length-append-stores (body img k) d (append-accepted img k r d o a)
+
+  few : count (body img k) < 255
+  few = let g = table.rule-regular (Kind k) r (a .ruled) in omega (arith, a .few, g .many)
+
+  module _ (n : ℕ) (less : n < length d + 4) where
+    cut-body : body (makeStoresIn n img k Record d) k ≡ makeStores n Record (body img k) d
+    unfolding makeStoresIn
+    cut-body = files.withBody-body img k (makeStores n Record (body img k) d) (a .stands) (making.makeStores-length n Record (body img k) d)
+
+    pub cut-changes : Changed img (makeStoresIn n img k Record d) k
+    unfolding makeStoresIn
+    cut-changes =
+        changed img k (makeStores n Record (body img k) d) o (a .stands) (making.makeStores-length n Record (body img k) d)
+        (by-kind.kindOk-rule k (makeStores n Record (body img k) d) r (a .ruled)
+        ∙ cuts.cut-wellFormed (body img k) d (append-accepted img k r d o a) few n less (r .longest) (r .most) (record-file img k r o (a .ruled) (a .stands)))
+
+    pub cut-list : recordsOf (makeStoresIn n img k Record d) k ≡ recordsOf img k
+    unfolding recordsOf
+    cut-list = ap records cut-body ∙ cuts.cut-records (body img k) d (append-accepted img k r d o a) few n less
+
+    pub cut-used : used (body (makeStoresIn n img k Record d) k) ≡ used (body img k)
+    cut-used = ap used cut-body ∙ cuts.cut-used (body img k) d (append-accepted img k r d o a) few n less

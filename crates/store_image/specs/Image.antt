@@ -10,6 +10,8 @@ use Rattle.base.specs.Bytes.{part, splice}
 use Rattle.store_records.specs.Little.{le16, le32}
 use Rattle.store_records.specs.Body.{records, append}
 use Rattle.store_kinds.specs.Biometrics.{update, activate}
+use Rattle.store_cut.specs.Stores.{Store, stores, makeStores}
+use Rattle.store_cut.specs.declared.Writing.{Writing}
 use Rattle.store_kinds.specs.Rules.{applicationOf, presentBy, kindOk}
 use Rattle.store_image.specs.declared.Found.{Found}
 use Rattle.store_image.specs.declared.Found.the-variants.{At, Missing}
@@ -119,3 +121,13 @@ updateIn img k off d = withBody img k (update (body img k) off d)
 -- the image after its activation [I10] [N7]
 unfoldable pub activateIn : List ℕ → ℕ → List ℕ
 activateIn img k = withBody img k (activate (body img k))
+
+-- ---- what APPEND RECORD and ACTIVATE store
+
+-- the stores of what is written to the file of kind k, in order; their places are in that file's body [I10] [CU2] [CU3]
+unfoldable pub storesIn : List ℕ → ℕ → Writing → List ℕ → List Store
+storesIn img k w d = stores w (body img k) d
+
+-- the image after the first n of them [I10] [CU4]
+unfoldable pub makeStoresIn : ℕ → List ℕ → ℕ → Writing → List ℕ → List ℕ
+makeStoresIn n img k w d = withBody img k (makeStores n w (body img k) d)

@@ -1,5 +1,6 @@
 // The card image: its sections, and each file's body in it. It knows nothing of commands, rights or sessions. Every
 // function takes any bytes; what is not well formed gets the answer that says so.
+use store_cut::Writing;
 use store_kinds::biometrics;
 use store_kinds::rules::BIOMETRICS;
 use store_kinds::rules::RULES;
@@ -7,17 +8,15 @@ use store_kinds::rules::Rule;
 use store_kinds::rules::TRAVEL;
 use store_kinds::rules::application_of;
 use store_kinds::rules::kind_ok;
-use store_records::body;
 use store_records::little::read16;
 use store_records::little::read32;
 ghost use mathlib.Core.Path.{_≡_};
 ghost use Prim.Native.Nat.{_+_, _≤_, _<_};
 ghost use lib.ListN.{length};
-ghost use Rattle.store_records.specs.Body.{appendable};
-ghost use Rattle.store_kinds.specs.Biometrics.{bioOk, updatable as takesAt};
+ghost use Rattle.store_kinds.specs.Biometrics.{updatable as takesAt};
 ghost use Rattle.store_kinds.specs.Rules.{applicationOf, there};
 ghost use Rattle.store_image.specs.Loops.{presentBehind};
-ghost use Rattle.store_image.specs.Image.{find, has, body, present, sectionOk, wellFormed, appendTo, updateIn, activateIn};
+ghost use Rattle.store_image.specs.Image.{find, has, body, present, sectionOk, wellFormed, storesIn, makeStoresIn, updateIn};
 
 // Where a section's body begins, and its length.
 pub enum Found {
@@ -150,18 +149,20 @@ pub fn well_formed(image: &[u8]) -> bool
     true
 }
 
-// Appends a record to the file of a kind, where it is there and can take it; else it changes nothing. Answers whether it could.
-pub fn append(image: &mut [u8], kind: usize, data: &[u8]) -> bool
-    ensures { λ r. ⌜ (r ≡ appendable (body (now (image .entry)) kind) (length (now («data» .entry)))) × (now (image .exit) ≡ appendTo (now (image .entry)) kind (now («data» .entry))) ⌝ }
+// Makes the first k stores of what is written to the file of a kind, all of them where k is more; none where the file is not there or cannot
+// take it. Answers how many there are in all. A record and a state are written here and nowhere else.
+pub fn make_stores(image: &mut [u8], kind: usize, w: Writing, data: &[u8], k: usize) -> usize
+    ensures { λ r. ⌜ (r ≡ length (storesIn (now (image .entry)) kind w (now («data» .entry)))) × (now (image .exit) ≡ makeStoresIn k (now (image .entry)) kind w (now («data» .entry))) ⌝ }
 {
     let Found::At(start, len) = find(image, kind) else {
-        return false;
+        return 0;
     };
     let end = start + len;
-    body::append(&mut image[start..end], data)
+    store_cut::make_stores(&mut image[start..end], w, data, k)
 }
 
-// Writes data from `offset` of the room of the file of a kind on, likewise.
+// Writes data from `offset` of the room of the file of a kind on, where it is there and can take it; else it changes nothing. Answers whether
+// it could.
 pub fn update(image: &mut [u8], kind: usize, offset: usize, data: &[u8]) -> bool
     ensures { λ r. ⌜ (r ≡ takesAt (body (now (image .entry)) kind) offset (length (now («data» .entry)))) × (now (image .exit) ≡ updateIn (now (image .entry)) kind offset (now («data» .entry))) ⌝ }
 {
@@ -170,15 +171,4 @@ pub fn update(image: &mut [u8], kind: usize, offset: usize, data: &[u8]) -> bool
     };
     let end = start + len;
     biometrics::update(&mut image[start..end], offset, data)
-}
-
-// Activates the file of a kind, likewise.
-pub fn activate(image: &mut [u8], kind: usize) -> bool
-    ensures { λ r. ⌜ (r ≡ bioOk (body (now (image .entry)) kind)) × (now (image .exit) ≡ activateIn (now (image .entry)) kind) ⌝ }
-{
-    let Found::At(start, len) = find(image, kind) else {
-        return false;
-    };
-    let end = start + len;
-    biometrics::activate(&mut image[start..end])
 }

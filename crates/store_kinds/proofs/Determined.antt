@@ -13,8 +13,6 @@ use Rattle.store_kinds.proofs.biometrics.well_formed.Kinds as well-form
 use Rattle.store_kinds.proofs.biometrics.well_formed.Reads as well-formed-reads
 use Rattle.store_kinds.proofs.biometrics.update.Kinds as update-kinds
 use Rattle.store_kinds.proofs.biometrics.update.Reads as update-reads
-use Rattle.store_kinds.proofs.biometrics.activate.Kinds as activate-kinds
-use Rattle.store_kinds.proofs.biometrics.activate.Reads as activate-reads
 use Rattle.store_kinds.proofs.rules.find_rule.Kinds as find-rule-kinds
 use Rattle.store_kinds.proofs.rules.find_rule.Reads as find-rule-reads
 use Rattle.store_kinds.proofs.rules.is_biometrics.Kinds as is-biometrics-kinds
@@ -43,9 +41,6 @@ well-formed-determined κs a e f p q i = ((p ∙ sym q) i, e .1)
 
 pub update-determined : Determined update-kinds.ps update-kinds.r update-reads.Post
 update-determined κs a e f p q i = ((p .0 ∙ sym (q .0)) i, ((p .1 ∙ sym (q .1)) i, (tt, (tt, tt))))
-
-pub activate-determined : Determined activate-kinds.ps activate-kinds.r activate-reads.Post
-activate-determined κs a e f p q i = ((p .0 ∙ sym (q .0)) i, ((p .1 ∙ sym (q .1)) i, tt))
 
 pub find-rule-determined : Determined find-rule-kinds.ps find-rule-kinds.r find-rule-reads.Post
 find-rule-determined κs a e f p q i = ((p ∙ sym q) i, e .1)

@@ -93,13 +93,13 @@ unfolding update
 update-refused xs off d t = (sym t, simp t)
 
 -- the same of an activation
-pub activate-accepted : (xs : List ℕ) → bioOk xs ≡ true → (true ≡ bioOk xs) × (set xs 0 1 ≡ activate xs)
+pub activate-accepted : (xs : List ℕ) → bioOk xs ≡ true → activate xs ≡ set xs 0 1
 unfolding activate
-activate-accepted xs t = (sym t, simp t)
+activate-accepted xs t = simp t
 
-pub activate-refused : (xs : List ℕ) → bioOk xs ≡ false → (false ≡ bioOk xs) × (xs ≡ activate xs)
+pub activate-refused : (xs : List ℕ) → bioOk xs ≡ false → activate xs ≡ xs
 unfolding activate
-activate-refused xs t = (sym t, simp t)
+activate-refused xs t = simp t
 
 -- a run stored over the end of what counts, or within it
 run-over : (z d : List ℕ) (off w : ℕ) → off ≤ w → off + length d ≤ length z → take (max w (off + length d)) (sets z off d) ≡ splice (take w z) off d

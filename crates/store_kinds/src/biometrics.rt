@@ -4,7 +4,7 @@ ghost use mathlib.Core.Path.{_≡_};
 ghost use mathlib.Core.Bool.{true};
 ghost use Prim.Native.Nat.{_+_, _<_, max};
 ghost use lib.ListN.{length};
-ghost use Rattle.store_kinds.specs.Biometrics.{state, written, room, writtenBytes, bioOk, updatable, updated, update, activate};
+ghost use Rattle.store_kinds.specs.Biometrics.{state, written, room, writtenBytes, bioOk, updatable, updated, update};
 
 // The most bytes that a file may have room for.
 pub const LARGEST_ROOM: usize = 131072;
@@ -98,16 +98,5 @@ pub fn update(body: &mut [u8], offset: usize, data: &[u8]) -> bool
         return false;
     }
     write(body, offset, w, data);
-    true
-}
-
-// Activates the body, where it is one of biometrics; else it changes nothing. Answers whether it was.
-pub fn activate(body: &mut [u8]) -> bool
-    ensures { λ r. ⌜ (r ≡ bioOk (now (body .entry))) × (now (body .exit) ≡ activate (now (body .entry))) ⌝ }
-{
-    if !well_formed(body) {
-        return false;
-    }
-    body[0] = 1;
     true
 }

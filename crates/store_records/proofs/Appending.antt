@@ -1,6 +1,6 @@
 -- What an append leaves: the old records with the new one behind them, in a body that is still well formed.
 -- Read before: specs/Body.antt, Bodies. Exports: `Appendable`, `appendable-…` (whether a body can take a record), `append-accepted`,
--- `append-refused`, `appended-…` (the body afterwards), `…-agree` (bodies that agree up to a place have the same records there).
+-- `append-refused`, `length-recordBytes`, `appended-…` (the body afterwards), `…-agree` (bodies that agree up to a place have the same records there).
 use Prim.Native.Nat.{ℕ, zero, suc, _+_, _-_, _/_, _%_, _≤_, _<_}
 use mathlib.Core.Path.{_≡_, refl, sym, ap, ap₂, _∙_}
 use mathlib.Core.Bool.{Bool, true, false, _&&_, and-false}
@@ -13,10 +13,10 @@ use lib.Seq.{sets, length-sets, getD-set-other, drop-set-lt}
 use lib.Dec.{leb}
 use borrow.Author.Tests.{le-leb, lt-leb, leb-true, lt-ltb, le-ltb, ltb-true}
 use Rattle.base.specs.Choice.{allOf}
-use Rattle.base.specs.Bytes.{part, put}
+use Rattle.base.specs.Bytes.{part}
 use Rattle.base.proofs.Cases.{ifElse-ind, allOf-facts, allOf-accepted}
 use Rattle.base.proofs.Parts.{Agree, part-within, drop-part}
-use Rattle.base.proofs.Runs.{getD-sets-before, part-sets, sets-append, put-accepted, length-put}
+use Rattle.base.proofs.Runs.{getD-sets-before, part-sets}
 use Rattle.store_records.specs.Little.{le16, bytes16}
 use Rattle.store_records.specs.Body.{count, nextPlace, place, recordAt, firsts, records, used, appendFits, okAt, okTo, bodyOk, appendable, recordBytes, appended, append}
 use Rattle.store_records.proofs.Numbers.{le16-agree, le16-part, le16-bytes, le16-set, length-bytes16}
@@ -54,38 +54,18 @@ module _ (xs : List ℕ) (n : ℕ) where
   unfolding appendable allOf
   appendable-many h = simp (le-ltb _ _ h, and-false)
 
--- what an append answers and leaves: where the body can take the record, and where not
-pub append-accepted : (xs d last : List ℕ) → appendable xs (length d) ≡ true → last ≡ appended xs d → (true ≡ appendable xs (length d)) × (last ≡ append xs d)
+-- what an append leaves: where the body can take the record, and where not
+pub append-accepted : (xs d : List ℕ) → appendable xs (length d) ≡ true → append xs d ≡ appended xs d
 unfolding append
-append-accepted xs d last t e = (sym t, e ∙ simp t)
+append-accepted xs d t = simp t
 
-pub append-refused : (xs d : List ℕ) → appendable xs (length d) ≡ false → (false ≡ appendable xs (length d)) × (xs ≡ append xs d)
+pub append-refused : (xs d : List ℕ) → appendable xs (length d) ≡ false → append xs d ≡ xs
 unfolding append
-append-refused xs d t = (sym t, simp t)
+append-refused xs d t = simp t
 
-length-written : (d : List ℕ) → length (recordBytes d) ≡ 2 + length d
+pub length-recordBytes : (d : List ℕ) → length (recordBytes d) ≡ 2 + length d
 unfolding recordBytes
-length-written d = length-append (bytes16 (length d)) d ∙ ap (λ (k : ℕ). k + length d) (length-bytes16 (length d))
-
--- the code's stores are those of the definition
-module _ (xs d : List ℕ) (at n : ℕ) (ea : at ≡ used xs) (en : n ≡ count xs) (t : appendable xs (length d) ≡ true) where
-  two-puts : put (put xs at (bytes16 (length d))) (at + 2) d ≡ sets xs (used xs) (recordBytes d)
-  unfolding recordBytes
-  two-puts =
-      let f = appendable-facts xs (length d) t in
-      let l = length-bytes16 (length d) in
-      let m = length-put xs at (bytes16 (length d)) in
-      let e : at + 2 ≡ at + length (bytes16 (length d)) = omega arith in
-      put-accepted (put xs at (bytes16 (length d))) (at + 2) d (omega (arith, f .room))
-      ∙ ap₂ (λ (y : List ℕ) (k : ℕ). sets y k d) (put-accepted xs at (bytes16 (length d)) (omega (arith, f .room))) e
-      ∙ sym (sets-append xs at (bytes16 (length d)) d)
-      ∙ ap (λ (k : ℕ). sets xs k (bytes16 (length d) ++ d)) ea
-
-  pub appended-by : (l₁ l₂ : List ℕ) → l₁ ≡ put xs at (length d % 256 ∷ length d / 256 % 256 ∷ []) → l₂ ≡ put l₁ (at + 2) d
-      → set (set l₂ 1 ((n + 1) / 256 % 256)) 0 ((n + 1) % 256) ≡ appended xs d
-  unfolding appended bytes16
-  appended-by l₁ l₂ e₁ e₂ =
-      ap₂ (λ (l : List ℕ) (k : ℕ). set (set l 1 ((k + 1) / 256 % 256)) 0 ((k + 1) % 256)) (e₂ ∙ ap (λ (l : List ℕ). put l (at + 2) d) e₁ ∙ two-puts) en
+length-recordBytes d = length-append (bytes16 (length d)) d ∙ ap (λ (k : ℕ). k + length d) (length-bytes16 (length d))
 
 -- ---- bodies that both hold the place n and agree up to it
 
@@ -166,7 +146,7 @@ module _ (xs d : List ℕ) (t : appendable xs (length d) ≡ true) where
   pub appended-run : part (appended xs d) (used xs) (2 + length d) ≡ recordBytes d
   unfolding appended
   appended-run =
-      let e = length-written d in
+      let e = length-recordBytes d in
       ap (take (2 + length d)) (drop-set-lt (used xs) _ 0 _ (omega (arith, low)) ∙ drop-set-lt (used xs) _ 1 _ (omega (arith, low)))
       ∙ ap (λ (k : ℕ). part (sets xs (used xs) (recordBytes d)) (used xs) k) (sym e)
       ∙ part-sets xs (used xs) (recordBytes d) (let f = facts in omega (arith, f .room))

@@ -13,12 +13,12 @@ use Rattle.store_records.proofs.body.behind.Kinds as behind-kinds
 use Rattle.store_records.proofs.body.behind.Reads as behind-reads
 use Rattle.store_records.proofs.body.record.Kinds as record-kinds
 use Rattle.store_records.proofs.body.record.Reads as record-reads
+use Rattle.store_records.proofs.body.fits_behind.Kinds as fits-behind-kinds
+use Rattle.store_records.proofs.body.fits_behind.Reads as fits-behind-reads
 use Rattle.store_records.proofs.body.append_fits.Kinds as append-fits-kinds
 use Rattle.store_records.proofs.body.append_fits.Reads as append-fits-reads
 use Rattle.store_records.proofs.body.well_formed.Kinds as well-formed-kinds
 use Rattle.store_records.proofs.body.well_formed.Reads as well-formed-reads
-use Rattle.store_records.proofs.body.append.Kinds as append-kinds
-use Rattle.store_records.proofs.body.append.Reads as append-reads
 use Rattle.store_records.proofs.little.read16.Kinds as read16-kinds
 use Rattle.store_records.proofs.little.read16.Reads as read16-reads
 use Rattle.store_records.proofs.little.read32.Kinds as read32-kinds
@@ -42,14 +42,14 @@ behind-determined κs a e f p q i = ((p ∙ sym q) i, e .1)
 pub record-determined : Determined-part record-kinds.ps record-reads.Post
 record-determined κs a e f p q = (p ∙ sym q, refl)
 
+pub fits-behind-determined : Determined fits-behind-kinds.ps fits-behind-kinds.r fits-behind-reads.Post
+fits-behind-determined κs a e f p q i = ((p ∙ sym q) i, e .1)
+
 pub append-fits-determined : Determined append-fits-kinds.ps append-fits-kinds.r append-fits-reads.Post
 append-fits-determined κs a e f p q i = ((p ∙ sym q) i, e .1)
 
 pub well-formed-determined : Determined well-formed-kinds.ps well-formed-kinds.r well-formed-reads.Post
 well-formed-determined κs a e f p q i = ((p ∙ sym q) i, e .1)
-
-pub append-determined : Determined append-kinds.ps append-kinds.r append-reads.Post
-append-determined κs a e f p q i = ((p .0 ∙ sym (q .0)) i, ((p .1 ∙ sym (q .1)) i, (tt, tt)))
 
 pub read16-determined : Determined read16-kinds.ps read16-kinds.r read16-reads.Post
 read16-determined κs a e f p q i = ((p .0 ∙ sym (q .0)) i, e .1)

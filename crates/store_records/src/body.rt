@@ -1,11 +1,10 @@
 // Record bodies: the records of one file, lent as a part that starts in the middle of the image.
 use crate::little::read16;
 ghost use mathlib.Core.Path.{_≡_};
-ghost use mathlib.Core.Bool.{true};
 ghost use Prim.Native.Nat.{_+_, _≤_, _<_, min};
 ghost use lib.ListN.{length};
 ghost use lib.Dec.{leb};
-ghost use Rattle.store_records.specs.Body.{count, place, behind, recordAt, used, records, nth, appendFits, okAt, bodyOk, appendable, appended, append};
+ghost use Rattle.store_records.specs.Body.{count, place, behind, recordAt, used, records, nth, appendFits, okAt, bodyOk};
 
 // How many records.
 pub fn count(body: &[u8]) -> usize
@@ -79,11 +78,13 @@ pub fn record(body: &[u8], n: usize) -> &[u8]
 }
 
 // Whether n bytes and their length fit behind the first `at` bytes.
-fn fits_behind(body: &[u8], at: usize, n: usize) -> bool
-    requires { ⌜ at < 8589934592 ⌝ }
+pub fn fits_behind(body: &[u8], at: usize, n: usize) -> bool
     ensures { λ r. ⌜ r ≡ leb (at + 2 + n) (length (now (body .entry))) ⌝ }
 {
-    if body.len() < at + 2 {
+    if body.len() < at {
+        return false;
+    }
+    if body.len() - at < 2 {
         return false;
     }
     n <= body.len() - at - 2
@@ -131,37 +132,5 @@ pub fn well_formed(body: &[u8], longest: usize, most: usize) -> bool
         at = at + 2 + read16(body, at);
         i += 1;
     }
-    true
-}
-
-// Writes a record behind the first `at` bytes, which hold n records, and then the count, its low byte last.
-fn write_record(body: &mut [u8], at: usize, n: usize, data: &[u8])
-    requires { ⌜ (at ≡ used (now body)) × (n ≡ count (now body)) × (appendable (now body) (length (now «data»)) ≡ true) ⌝ }
-    ensures { λ _. ⌜ now (body .exit) ≡ appended (now (body .entry)) (now («data» .entry)) ⌝ }
-{
-    let len = data.len();
-    let head = [(len % 256) as u8, (len / 256 % 256) as u8];
-    base::put(body, at, &head);
-    base::put(body, at + 2, data);
-    body[1] = ((n + 1) / 256 % 256) as u8;
-    body[0] = ((n + 1) % 256) as u8;
-}
-
-// Appends a record where the body can take it; else it changes nothing. Answers whether it could.
-pub fn append(body: &mut [u8], data: &[u8]) -> bool
-    ensures { λ r. ⌜ (r ≡ appendable (now (body .entry)) (length (now («data» .entry)))) × (now (body .exit) ≡ append (now (body .entry)) (now («data» .entry))) ⌝ }
-{
-    let n = count(body);
-    let at = used(body);
-    if !fits_behind(body, at, data.len()) {
-        return false;
-    }
-    if 65535 < data.len() {
-        return false;
-    }
-    if 65535 <= n {
-        return false;
-    }
-    write_record(body, at, n, data);
     true
 }

@@ -1,4 +1,5 @@
-// Cases of store_kinds::biometrics.
+// Cases of store_kinds::biometrics, and of store_cut with a state.
+use store_cut::Writing;
 
 // State, written length, room and content, and whether the body is well formed.
 fn read(body: &[u8]) {
@@ -16,9 +17,10 @@ fn update(body: &mut [u8], offset: usize, written: &[u8]) {
     program_console::bytes(body);
 }
 
-fn activate(body: &mut [u8]) {
+// Makes the first k stores of an activation, which looks at no data: how many there are in all, and the body then.
+fn activate(body: &mut [u8], data: &[u8], k: usize) {
     program_console::word(b"biometrics.activate");
-    program_console::flag(store_kinds::biometrics::activate(body));
+    program_console::field(store_cut::make_stores(body, Writing::State, data, k));
     program_console::bytes(body);
 }
 
@@ -27,7 +29,7 @@ pub(crate) fn answer(op: usize, x: usize, a: &mut [u8], b: &[u8]) -> bool {
     match op {
         30 => read(a),
         31 => update(a, x, b),
-        32 => activate(a),
+        32 => activate(a, b, x),
         _ => return false,
     }
     true

@@ -1,4 +1,5 @@
-// Cases of store_records::body.
+// Cases of store_records::body, and of store_cut with a record.
+use store_cut::Writing;
 
 // The count and the bytes used.
 fn used(body: &[u8]) {
@@ -22,9 +23,10 @@ fn well_formed(body: &[u8], longest: usize, most: usize) {
     program_console::flag(store_records::body::well_formed(body, longest, most));
 }
 
-fn append(body: &mut [u8], record: &[u8]) {
+// Makes the first k stores of a record: how many there are in all, and the body then.
+fn append(body: &mut [u8], record: &[u8], k: usize) {
     program_console::word(b"body.append");
-    program_console::flag(store_records::body::append(body, record));
+    program_console::field(store_cut::make_stores(body, Writing::Record, record, k));
     program_console::bytes(body);
 }
 
@@ -35,7 +37,7 @@ pub(crate) fn answer(op: usize, x: usize, y: usize, a: &mut [u8], b: &[u8]) -> b
         21 => fits(a, x),
         22 => record(a, x),
         23 => well_formed(a, x, y),
-        24 => append(a, b),
+        24 => append(a, b, x),
         _ => return false,
     }
     true

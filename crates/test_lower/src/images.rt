@@ -1,4 +1,5 @@
 // Cases of store_image.
+use store_cut::Writing;
 use store_image::Found;
 
 // Where the body of a kind is, and the body.
@@ -30,10 +31,15 @@ fn present(image: &[u8]) {
     program_console::flag(store_image::present(image, 4));
 }
 
-fn append(image: &mut [u8], kind: usize, record: &[u8]) {
-    program_console::word(b"image.append");
-    program_console::flag(store_image::append(image, kind, record));
+// Makes the first k stores of what is written to a file: how many there are in all, and the image then.
+fn stores(image: &mut [u8], kind: usize, w: Writing, data: &[u8], k: usize) {
+    program_console::field(store_image::make_stores(image, kind, w, data, k));
     program_console::bytes(image);
+}
+
+fn append(image: &mut [u8], kind: usize, record: &[u8], k: usize) {
+    program_console::word(b"image.append");
+    stores(image, kind, Writing::Record, record, k);
 }
 
 fn update(image: &mut [u8], kind: usize, offset: usize, written: &[u8]) {
@@ -42,10 +48,9 @@ fn update(image: &mut [u8], kind: usize, offset: usize, written: &[u8]) {
     program_console::bytes(image);
 }
 
-fn activate(image: &mut [u8], kind: usize) {
+fn activate(image: &mut [u8], kind: usize, data: &[u8], k: usize) {
     program_console::word(b"image.activate");
-    program_console::flag(store_image::activate(image, kind));
-    program_console::bytes(image);
+    stores(image, kind, Writing::State, data, k);
 }
 
 // Answers a case; whether it is one of these.
@@ -54,9 +59,9 @@ pub(crate) fn answer(op: usize, x: usize, y: usize, a: &mut [u8], b: &[u8]) -> b
         10 => well_formed(a),
         11 => find(a, x),
         12 => present(a),
-        13 => append(a, x, b),
+        13 => append(a, x, b, y),
         14 => update(a, x, y, b),
-        15 => activate(a, x),
+        15 => activate(a, x, b, y),
         _ => return false,
     }
     true

@@ -22,11 +22,13 @@
 //    filled with A5A5A5A5. The line: the result, a hash of the list.
 // 10, rights of certificates: the length of the buffer (2 bytes, little-endian), then of each of three runs the length (4 bytes,
 //    little-endian) and its bytes. The buffer is filled with A5. The line: the result, the buffer's bytes.
+// 11, a cut: how many stores are made (8 bytes, little-endian), the length of the command (2 bytes, little-endian), the command. The line: the
+//    result, a hash of the image. The card's image is from now on what the cut left; the session stays.
 use program_console::result;
 use store_records::little::read16;
 use store_records::little::read32;
 ghost use mathlib.Core.Path.{_≡_};
-ghost use lib.ListN.{length};
+ghost use lib.ListN.{length, replicate};
 
 // What is left of the input behind a case, how long the card's image and the session are.
 struct Turn {
@@ -455,6 +457,37 @@ fn rights(s: &[u8], image: usize, session: usize) -> Turn {
     }
 }
 
+// The line of a cut.
+fn run_cut(image: &mut [u8], kept: &[u8], command: &[u8], stores: usize) {
+    program_console::number(malquindo::malquindo_cut(image, kept, command, stores));
+    program_console::word(b" ");
+    program_console::number(hash(image));
+    program_console::end();
+}
+
+// A cut.
+fn cut(s: &[u8], card: &mut [u8], image: usize, kept: &[u8], n: usize) -> Turn {
+    let bytes = base::part(s, 10, s.len());
+    let c = read16(s, 8);
+    if bytes.len() < c {
+        return torn(s);
+    }
+    if card.len() < image {
+        return torn(s);
+    }
+    run_cut(
+        &mut card[..image],
+        base::part(kept, 0, n),
+        base::part(bytes, 0, c),
+        read64(s),
+    );
+    Turn {
+        left: bytes.len() - c,
+        image,
+        session: n,
+    }
+}
+
 // Answers the case that s starts with.
 fn case(s: &[u8], card: &mut [u8], i: usize, kept: &mut [u8], n: usize) -> Turn {
     let rest = base::part(s, 1, s.len());
@@ -469,6 +502,7 @@ fn case(s: &[u8], card: &mut [u8], i: usize, kept: &mut [u8], n: usize) -> Turn 
         8 => index(rest, i, n),
         9 => stamp(rest, i, n),
         10 => rights(rest, i, n),
+        11 => cut(rest, card, i, kept, n),
         _ => torn(s),
     }
 }
@@ -486,8 +520,15 @@ fn cases(s: &[u8], card: &mut [u8], kept: &mut [u8]) {
     }
 }
 
+// Room for all input.
+fn input_room() -> [u8; 655360]
+    ensures { λ r. ⌜ r ≡ replicate 655360 0 ⌝ }
+{
+    [0; 655360]
+}
+
 fn main() {
-    let mut input = program_console::room();
+    let mut input = input_room();
     let mut card = program_console::room();
     let mut kept = [0; 64];
     let n = io::read_full(0, &mut input);

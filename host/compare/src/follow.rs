@@ -1,9 +1,10 @@
 //! An index that is kept beside a card: built from one of its files, and extended after each
-//! append to the file that is done. In the end the index reads the records, and READ RECORD reads
+//! append to the file that is done, and after one that is cut behind its last store. In the end the index reads the records, and READ RECORD reads
 //! them again.
 
 use crate::card::{self, Size};
 use crate::command;
+use crate::cuts::{self, Room};
 use crate::index;
 use crate::make::{self, Apdu, Rule, RIGHTS_LEN, RULES, SESSION_LEN, SHORTEST_RESPONSE};
 use crate::moving;
@@ -137,10 +138,19 @@ impl Follow {
         match random.below(10) {
             0..=5 => self.append(random, &view),
             6 => vec![moving::step(random, &state.image, self.size)],
+            7 => self.cut(random, &view),
             _ => {
                 let command = command::command(random, &view, &state.image, self.size);
                 vec![run(command, None)]
             }
+        }
+    }
+
+    /// An append to the file that is cut; one that is not where the file has no room.
+    fn cut(&self, random: &mut Random, view: &View) -> Vec<Step> {
+        match Room::of_rule(view, self.rule) {
+            Some(room) => self.here(view, cuts::append(random, &room, self.size)),
+            None => self.append(random, view),
         }
     }
 
@@ -152,11 +162,15 @@ impl Follow {
         let length = random.between(1, longest);
         let data = random.bytes(length);
         let append = Apdu::new(0x00, 0xE2, 0x00, self.rule.short_id << 3).data(data);
-        let append = run(append.bytes(), None);
+        self.here(view, run(append.bytes(), None))
+    }
+
+    /// The step in the file's application.
+    fn here(&self, view: &View, step: Step) -> Vec<Step> {
         if view.application == self.rule.application {
-            vec![append]
+            vec![step]
         } else {
-            vec![self.select(), append]
+            vec![self.select(), step]
         }
     }
 

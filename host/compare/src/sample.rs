@@ -13,8 +13,8 @@ use std::ops::RangeInclusive;
 
 /// The seed of the sample that is kept as data.
 pub const SEED: u64 = 94_175;
-/// The most bytes the sample may have. The program that reads it has room for 524,288 bytes.
-pub const LONGEST: usize = 522_000;
+/// The most bytes the sample may have. The program that reads it has room for 655,360 bytes.
+pub const LONGEST: usize = 640_000;
 /// What the response buffer holds before each command, and the target before each move.
 const FILL: u8 = 0xA5;
 
@@ -79,6 +79,7 @@ fn done(state: &mut State, step: &Step) -> Option<String> {
             command,
             ..
         } => run(state, *response_len, command),
+        Step::Cut { stores, command } => cut(state, *stores, command),
         Step::Move { target_len, list } => move_card(state, *target_len, list),
         Step::File(kind) => find_file(state, *kind),
         Step::Certificates {
@@ -112,6 +113,12 @@ fn run(state: &mut State, response_len: usize, command: &[u8]) -> String {
         fnv(&state.image),
         fnv(&response)
     )
+}
+
+/// Cuts a command and says what the image is then.
+fn cut(state: &mut State, stores: usize, command: &[u8]) -> String {
+    state.result = reference::cut(&mut state.image, &state.session, command, stores);
+    format!("{} {}\n", state.result, fnv(&state.image))
 }
 
 /// Moves the card and says what that did. The card that a move wrote is the card from then on.
@@ -196,7 +203,7 @@ fn read_rights(state: &mut State, [first, second, third]: &Runs, room: usize) ->
 }
 
 /// A case: 1 image, 2 session, 3 open, 4 command, 5 move, 6 file, 7 certificates, 8 an index,
-/// 9 a stamp, 10 rights; numbers are little-endian.
+/// 9 a stamp, 10 rights, 11 a cut; numbers are little-endian.
 fn encode(step: &Step, bytes: &mut Vec<u8>) {
     match step {
         Step::Image(image) => case(1, &[], &[image], bytes),
@@ -229,6 +236,10 @@ fn encode(step: &Step, bytes: &mut Vec<u8>) {
         }
         Step::Stamp { record, entries } => case(9, &[&two(*entries)], &[record], bytes),
         Step::Rights { runs, room } => case(10, &[&two(*room)], &runs.each_ref(), bytes),
+        Step::Cut { stores, command } => {
+            let stores = (*stores as u64).to_le_bytes();
+            case(11, &[&stores, &two(command.len()), command], &[], bytes);
+        }
     }
 }
 

@@ -4,6 +4,7 @@
 use crate::card::{self, Size};
 use crate::certificates;
 use crate::command;
+use crate::cuts;
 use crate::extension_more;
 use crate::extension_scene;
 use crate::extensions;
@@ -187,10 +188,10 @@ impl Sequence {
                 let made_up = rights::session(&mut self.random, &view, &session);
                 let view = View::new(&state.image, &made_up);
                 self.pending.push_back(Step::Session(made_up));
-                if self.random.one_in(6) {
-                    self.plan_open();
-                } else {
-                    self.plan_command(&view, &state.image);
+                match self.random.below(6) {
+                    0 => self.plan_open(),
+                    1 => self.plan_one_cut(&view, &state.image),
+                    _ => self.plan_command(&view, &state.image),
                 }
             }
             3..=4 => self.plan_open(),
@@ -211,6 +212,7 @@ impl Sequence {
                 self.pending.push_back(step);
                 self.opens = true;
             }
+            33..=36 => self.plan_cut(&view, &state.image),
             _ => self.plan_command(&view, &state.image),
         }
     }
@@ -264,6 +266,31 @@ impl Sequence {
         });
     }
 
+    /// A cut of a command that does something mostly, with the selections that it needs.
+    fn plan_cut(&mut self, view: &View, image: &[u8]) {
+        self.moved = false;
+        let steps = cuts::steps(&mut self.random, view, image, self.size);
+        self.pending.extend(steps);
+    }
+
+    /// A cut alone.
+    fn plan_one_cut(&mut self, view: &View, image: &[u8]) {
+        self.moved = false;
+        let step = cuts::step(&mut self.random, view, image, self.size);
+        self.pending.push_back(step);
+    }
+
+    /// A cut alone on a damaged image, now and then with a session that is none either.
+    fn plan_damaged_cut(&mut self, damaged: &[u8], mut session: Vec<u8>) {
+        let mut view = View::new(damaged, &session);
+        if self.random.one_in(3) {
+            session = rights::session(&mut self.random, &view, &session);
+            view = View::new(damaged, &session);
+            self.pending.push_back(Step::Session(session));
+        }
+        self.plan_one_cut(&view, damaged);
+    }
+
     /// A move to rooms for what the given image holds.
     fn plan_move(&mut self, image: &[u8]) {
         self.moved = true;
@@ -301,9 +328,9 @@ impl Sequence {
         self.pending.push_back(step);
     }
 
-    /// A damaged image in place of the card's, and one step on it: a command; a file or
-    /// certificates to find; a call of an index; or a move to rooms for what can still be seen of
-    /// it or for what it was.
+    /// A damaged image in place of the card's, and one step on it: a command, or one that is cut; a
+    /// file or certificates to find; a call of an index; or a move to rooms for what can still be
+    /// seen of it or for what it was.
     fn plan_damage(&mut self, state: &State) {
         let session = self.good_session(state);
         let image = self.image.get_or_insert_with(|| state.image.clone());
@@ -316,6 +343,7 @@ impl Sequence {
             2 => self.plan_file(&damaged),
             3 => self.plan_certificates(&damaged),
             4 => self.plan_index(&damaged),
+            5 => self.plan_damaged_cut(&damaged, session),
             _ => self.plan_command(&View::new(&damaged, &session), &damaged),
         }
     }

@@ -14,6 +14,8 @@ use std::fmt;
 pub type Open = fn(&[u8], &mut [u8]) -> u64;
 /// A command: image, session, command, response.
 pub type Command = fn(&mut [u8], &mut [u8], &[u8], &mut [u8]) -> u64;
+/// A cut: image, session, command, stores.
+pub type Cut = fn(&mut [u8], &[u8], &[u8], usize) -> u64;
 /// A move: old image, list, target.
 pub type MoveCard = fn(&[u8], &[u8], &mut [u8]) -> u64;
 /// Where a file stands: image, kind.
@@ -35,6 +37,7 @@ pub type Rights = fn(&[u8], &[u8], &[u8], &mut [u8]) -> u64;
 pub struct Machine {
     pub open: Open,
     pub command: Command,
+    pub cut: Cut,
     pub move_card: MoveCard,
     pub file: File,
     pub certificate: Certificate,
@@ -48,6 +51,7 @@ pub struct Machine {
 pub const PROVED: Machine = Machine {
     open: malquindo_sys::open,
     command: malquindo_sys::command,
+    cut: malquindo_sys::cut,
     move_card: malquindo_sys::move_card,
     file: malquindo_sys::file,
     certificate: malquindo_sys::certificate,
@@ -61,6 +65,7 @@ pub const PROVED: Machine = Machine {
 pub const REFERENCE: Machine = Machine {
     open: reference::open,
     command: reference::command,
+    cut: reference::cut,
     move_card: reference::move_card,
     file: reference::file,
     certificate: reference::certificate,
@@ -227,6 +232,7 @@ impl Sides {
             Step::Image(_)
             | Step::Session(_)
             | Step::Open(_)
+            | Step::Cut { .. }
             | Step::File(_)
             | Step::Certificates { .. }
             | Step::Index { .. } => {}
@@ -305,6 +311,9 @@ impl Outcome {
             Step::Command { command, .. } => {
                 *result = (machine.command)(image, session, command, &mut self.response);
             }
+            Step::Cut { stores, command } => {
+                *result = (machine.cut)(image, session, command, *stores);
+            }
             Step::Move { list, .. } => {
                 *result = (machine.move_card)(image, list, &mut self.target);
             }
@@ -382,6 +391,9 @@ impl fmt::Display for Difference {
                     writeln!(f, "record   {} by an index", hex(record))?;
                 }
             }
+            Step::Cut { stores, command } => {
+                writeln!(f, "cut      {} behind {stores} stores", hex(command))?;
+            }
             Step::Move { list, .. } => writeln!(f, "move     {}", hex(list))?,
             Step::File(kind) => writeln!(f, "file     {kind:04X}")?,
             Step::Certificates { card, desk, .. } => {
@@ -414,7 +426,7 @@ impl Difference {
         writeln!(f, "{name} session  {}", hex(session))?;
         match &self.step {
             Step::Move { .. } => writeln!(f, "{name} target   {}", hex(&outcome.target))?,
-            Step::File(_) | Step::Certificates { .. } => {}
+            Step::Cut { .. } | Step::File(_) | Step::Certificates { .. } => {}
             Step::Index { .. } if name == "BEFORE" => {}
             Step::Index { .. } | Step::Stamp { .. } => {
                 writeln!(f, "{name} list     {:?}", outcome.state.places)?;
@@ -435,6 +447,9 @@ impl Difference {
         let (refusal, low) = (result >> 32, result as u32);
         let (length, status) = (low >> 16, low & 0xFFFF);
         match &self.step {
+            Step::Cut { .. } => {
+                writeln!(f, "{name} result {result}: refusal {refusal}, stores {low}")
+            }
             Step::Move { .. } => {
                 writeln!(f, "{name} result {result}: refusal {refusal}, length {low}")
             }

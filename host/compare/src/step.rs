@@ -17,6 +17,11 @@ pub enum Step {
         /// answer must be.
         record: Option<Vec<u8>>,
     },
+    /// A command that is cut behind so many stores. The image goes on as the cut left it.
+    Cut {
+        stores: usize,
+        command: Vec<u8>,
+    },
     Move {
         target_len: usize,
         list: Vec<u8>,
@@ -97,7 +102,7 @@ impl Step {
 pub struct State {
     pub image: Vec<u8>,
     pub session: Vec<u8>,
-    /// The result of the last opening, command or move.
+    /// The result of the last opening, command, cut or move.
     pub result: u64,
     /// The results of the last step that is none of these: one of a file, of a stamp, of rights, and
     /// of building or extending an index; as many as there are references or numbers of certificates
@@ -127,7 +132,7 @@ impl State {
     pub fn results(&self, step: &Step) -> &[u64] {
         match step {
             Step::Image(_) | Step::Session(_) => &[],
-            Step::Open(_) | Step::Command { .. } | Step::Move { .. } => {
+            Step::Open(_) | Step::Command { .. } | Step::Cut { .. } | Step::Move { .. } => {
                 std::slice::from_ref(&self.result)
             }
             Step::File(_)

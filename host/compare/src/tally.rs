@@ -2,6 +2,7 @@
 
 use crate::binary_tally::BinaryTally;
 use crate::command::NAMES;
+use crate::cut_tally::CutTally;
 use crate::extension_tally::ExtensionTally;
 use crate::index_tally::IndexTally;
 use crate::make;
@@ -58,6 +59,7 @@ pub struct Tally {
     /// Calls by reference, without those that were refused.
     references: BTreeMap<u8, u64>,
     pub binary: BinaryTally,
+    pub cut: CutTally,
     pub index: IndexTally,
     pub stamp: StampTally,
     pub extension: ExtensionTally,
@@ -68,7 +70,7 @@ impl Tally {
         let files: u64 = self.files.iter().sum();
         let certificates: u64 = self.certificates.iter().sum();
         let readings = self.stamp.calls() + self.extension.calls();
-        let others = files + certificates + self.index.calls() + readings;
+        let others = self.cut.calls() + files + certificates + self.index.calls() + readings;
         self.commands + self.opens + self.moves + others
     }
 
@@ -78,6 +80,7 @@ impl Tally {
             self.bodies[form(card)][form(desk)] += 1;
         }
         self.binary.step(step, results);
+        self.cut.step(step, results);
         self.index.step(step, results);
         self.stamp.step(step, results);
         self.extension.step(step, results);
@@ -100,9 +103,10 @@ impl Tally {
             }
             Step::File(_) => self.files[usize::from(result != 0)] += 1,
             Step::Certificates { first, .. } => self.certificate(first + at as u8, result),
-            // Indexes, stamps and extensions have tallies of their own.
+            // Cuts, indexes, stamps and extensions have tallies of their own.
             Step::Image(_)
             | Step::Session(_)
+            | Step::Cut { .. }
             | Step::Index { .. }
             | Step::Stamp { .. }
             | Step::Rights { .. } => {}
@@ -161,8 +165,8 @@ impl Tally {
     /// search by an id and by either spelling of a short id, 6981 of the last two, 6A82 of a search by
     /// another byte, each status and each sort of READ BINARY B1, offsets and windows of three bytes,
     /// moves to the largest room, moves done, files found and not, what comes of a reference, bodies
-    /// that are damaged, empty or full, each of the 256 references, each sort of call of an index, each
-    /// fault of a stamp at each place, each fault of an extension.
+    /// that are damaged, empty or full, each of the 256 references, cuts by where they fall, each sort
+    /// of call of an index, each fault of a stamp at each place, each fault of an extension.
     pub fn missing(&self, each: u64, done: u64) -> Vec<String> {
         let moves = MOVE_REFUSALS.iter().map(|number| {
             let what = format!("refusal {number} of a move");
@@ -175,6 +179,7 @@ impl Tally {
             .chain(moved)
             .chain(self.wanted_files_and_certificates(each, done))
             .chain(self.binary.wanted(each))
+            .chain(self.cut.wanted(each))
             .chain(self.index.wanted(each, done))
             .chain(self.stamp.wanted(each, done))
             .chain(self.extension.wanted(each, done))
@@ -294,7 +299,9 @@ impl fmt::Display for Tally {
         } = self;
         let files: u64 = self.files.iter().sum();
         let certificates: u64 = self.certificates.iter().sum();
-        write!(f, "{commands} commands, {opens} openings, {moves} moves, ")?;
+        let cuts = self.cut.calls();
+        write!(f, "{commands} commands, {cuts} cuts, ")?;
+        write!(f, "{opens} openings, {moves} moves, ")?;
         let (index, stamps) = (self.index.calls(), self.stamp.calls());
         let rights = self.extension.calls();
         write!(f, "{files} files, {certificates} certificates, ")?;
@@ -338,7 +345,7 @@ impl fmt::Display for Tally {
             writeln!(f, "| refusal {number} | {} |", self.moved(number))?;
         }
         self.show_files_and_certificates(f)?;
-        write!(f, "{}{}", self.binary, self.index)?;
+        write!(f, "{}{}{}", self.binary, self.cut, self.index)?;
         write!(f, "{}{}", self.stamp, self.extension)
     }
 }

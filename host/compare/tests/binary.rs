@@ -284,7 +284,7 @@ const WRONG_OFFSETS: [Wrong; 9] = [
             instead(image, session, command, response, |apdu| {
                 let named = [apdu.p1, apdu.p2];
                 let other = named != [0, 0] && Some(named) != current;
-                (apdu.ins == 0xB1 && other).then(|| Apdu {
+                (apdu.ins == 0xB1 && other).then_some(Apdu {
                     p1: 0xFF,
                     p2: 0xFF,
                     ..apdu

@@ -1,7 +1,7 @@
-//! The eleven functions of `include/malquindo.h`, declared as they stand there, and the same
-//! functions on slices ([`rights`], [`open`], [`command`], [`move_card`], [`file`](fn@file),
-//! [`certificate`], [`index_build`], [`index_extend`], [`index_read`] and [`stamp_read`]), which are
-//! safe to call.
+//! The twelve functions of `include/malquindo.h`, declared as they stand there, and the same
+//! functions on slices ([`rights`], [`open`], [`command`], [`cut`], [`move_card`],
+//! [`file`](fn@file), [`certificate`], [`index_build`], [`index_extend`], [`index_read`] and
+//! [`stamp_read`]), which are safe to call.
 //!
 //! Most callers want the crate `malquindo`, which has types for sessions, answers and refusals.
 //!
@@ -47,6 +47,18 @@ extern "C" {
         command_len: usize,
         response: *mut u8,
         response_len: usize,
+    ) -> u64;
+
+    /// What a cut behind so many stores of a command leaves of the image. The result is
+    /// refusal * 2^32 + how many stores the command has in all.
+    pub fn malquindo_cut(
+        image: *mut u8,
+        image_len: usize,
+        session: *const u8,
+        session_len: usize,
+        command: *const u8,
+        command_len: usize,
+        stores: usize,
     ) -> u64;
 
     /// Moves a card to rooms of other sizes. The result is refusal * 2^32 + length of the new
@@ -167,6 +179,24 @@ pub fn command(image: &mut [u8], session: &mut [u8], command: &[u8], response: &
             command.len(),
             response.as_mut_ptr(),
             response.len(),
+        )
+    }
+}
+
+/// `malquindo_cut` on slices of any length.
+pub fn cut(image: &mut [u8], session: &[u8], command: &[u8], stores: usize) -> u64 {
+    // SAFETY: pointers and lengths are those of slices, which are never null; the slice that is
+    // written is borrowed by this call alone, and the others are only read, so that those which
+    // overlap do no harm.
+    unsafe {
+        malquindo_cut(
+            image.as_mut_ptr(),
+            image.len(),
+            session.as_ptr(),
+            session.len(),
+            command.as_ptr(),
+            command.len(),
+            stores,
         )
     }
 }

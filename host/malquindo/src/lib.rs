@@ -34,6 +34,8 @@
 //!
 //! [`rights`] reads the rights to open with from the extensions of three certificates.
 //!
+//! [`cut`] is for testers: it leaves a card as one that was taken away amid a command.
+//!
 //! [`move_card`] writes a card anew, with other rooms. [`file`](fn@file) finds a file's body in an
 //! image, and [`certificate`] the certificate that a stamp names. An [`Index`] reads a record
 //! without a walk over those before it. [`read_stamp`] tells what a stamp says.
@@ -233,6 +235,49 @@ pub fn command<'r>(
     })
 }
 
+/// For testers: what a card is that was taken away amid a command. The image is then as a cut
+/// behind so many of the command's stores leaves it, and the answer is how many it has in all.
+///
+/// APPEND RECORD of n bytes has n + 4 stores, of one byte each: the record's length, its bytes, and
+/// last the file's count. ACTIVATE has one, that of the state. All are made where `stores` is
+/// as many or more; short of that the card holds what it held before. Any other command has none,
+/// and so have these two where [`command`] would not answer 9000: the image stays then, and the
+/// answer is 0. UPDATE BINARY is among the others, though it writes.
+///
+/// The session is only read: it is the one before the command. A refusal is
+/// [`Refusal::BadImage`] or [`Refusal::BadSession`], and the image stays.
+///
+/// A record of one byte, cut before its last store; the next append takes its room:
+///
+/// ```
+/// let mut image = [0; 138];
+/// let rooms = [(0x0101, 40), (0x0102, 40), (0x011A, 40)];
+/// malquindo::move_card(&[], &rooms, &mut image)?;
+/// let mut session = malquindo::open(&[0xFF; 60])?;
+/// let mut response = [0; malquindo::RESPONSE_LEN];
+/// let select = [0x00, 0xA4, 0x04, 0x0C, 7, 0xA0, 0x00, 0x00, 0x02, 0x47, 0x20, 0x01];
+/// malquindo::command(&mut image, &mut session, &select, &mut response)?;
+///
+/// let append = |byte| [0x00, 0xE2, 0x00, 0x08, 1, byte];
+/// assert_eq!(malquindo::cut(&mut image, &session, &append(0x55), 4)?, 5);
+/// // The record's length and its byte lie in free room: no record is counted.
+/// assert_eq!(image[6..11], [0, 0, 1, 0, 0x55]);
+/// assert_eq!(malquindo::cut(&mut image, &session, &append(0x66), 5)?, 5);
+/// assert_eq!(image[6..11], [1, 0, 1, 0, 0x66]);
+/// // SELECT has no store.
+/// assert_eq!(malquindo::cut(&mut image, &session, &select, 5)?, 0);
+/// # Ok::<(), malquindo::Refusal>(())
+/// ```
+pub fn cut(
+    image: &mut [u8],
+    session: &Session,
+    command: &[u8],
+    stores: usize,
+) -> Result<usize, Refusal> {
+    let all = accepted(malquindo_sys::cut(image, &session.0, command, stores))?;
+    Ok(all as usize)
+}
+
 /// Moves a card to rooms of other sizes. Each room is a kind and the length of its body.
 ///
 /// Every file of the old image is in the new one: its records under their numbers, or its state
@@ -381,6 +426,36 @@ mod tests {
         let refused = command(&mut [], &mut malformed, &[], &mut response);
         assert_eq!(refused, Err(Refusal::BadSession));
         assert_eq!(malformed.as_bytes(), &[0xFF; SESSION_LEN]);
+    }
+
+    #[test]
+    fn refusals_of_a_cut() {
+        let session = open(&[0xFF; 60]).unwrap();
+        let malformed = Session::from_bytes([0xFF; SESSION_LEN]);
+        let bad = cut(&mut [0], &malformed, &[], 1);
+        assert_eq!(bad, Err(Refusal::BadImage));
+        let refused = cut(&mut [], &malformed, &[], 1);
+        assert_eq!(refused, Err(Refusal::BadSession));
+        assert_eq!(cut(&mut [], &session, &[], 1), Ok(0));
+    }
+
+    /// ACTIVATE, cut before its one store and behind it.
+    #[test]
+    fn an_activation_cut() {
+        let mut image = [0; 8 + 11 + 4];
+        move_card(&[], &[(0x031A, 2), (0x0401, 5 + 4)], &mut image).unwrap();
+        let mut session = open(&[0xFF; 60]).unwrap();
+        let select = [0x00, 0xA4, 0x04, 0x0C, 7, 0xA0, 0, 0, 2, 0x47, 0x20, 3];
+        assert_eq!(run(&mut image, &mut session, &select), (vec![], 0x9000));
+        let file = [0x00, 0xA4, 0x02, 0x0C, 2, 0x02, 0x01];
+        assert_eq!(run(&mut image, &mut session, &file), (vec![], 0x9000));
+        let activate = [0x00, 0x44, 0x00, 0x00];
+        assert_eq!(cut(&mut image, &session, &activate, 0), Ok(1));
+        assert_eq!(image[14], 0);
+        assert_eq!(cut(&mut image, &session, &activate, usize::MAX), Ok(1));
+        assert_eq!(image[14], 1);
+        // An Activated file is not activated again.
+        assert_eq!(cut(&mut image, &session, &activate, 1), Ok(0));
     }
 
     #[test]

@@ -8,6 +8,7 @@ use crate::objects::{self, FileName, Search, Update};
 use crate::rights::Use;
 use crate::search;
 use crate::session::{Place, Session};
+use crate::stores::{self, Store};
 
 /// 256 * SW1 + SW2.
 pub type Status = u16;
@@ -42,6 +43,21 @@ pub struct Done {
 
 type Outcome = Result<Done, Status>;
 
+/// An APPEND RECORD or ACTIVATE answered 9000, before anything is changed: its stores in their
+/// order, and the session after.
+struct Change {
+    stores: Vec<Store>,
+    session: Session,
+}
+
+impl Change {
+    /// Makes all stores.
+    fn make(self, image: &mut [u8]) -> Session {
+        stores::make_first(usize::MAX, &self.stores, image);
+        self.session
+    }
+}
+
 /// Steps 1 to 3: the shape, the class, the instruction; then the command itself.
 pub fn run(
     image: &mut [u8],
@@ -58,8 +74,8 @@ pub fn run(
         (0x00, 0xB0) => card.read_binary_b0(&apdu, image, &mut reply),
         (0x00, 0xB1) => card.read_binary_b1(&apdu, image, &mut reply),
         (0x00, 0xD7) => card.update_binary(&apdu, image),
-        (0x00, 0x44) => card.activate(&apdu, image),
-        (0x00, 0xE2) => card.append_record(&apdu, image),
+        (0x00, 0x44) => card.activate(&apdu).map(|change| change.make(image)),
+        (0x00, 0xE2) => card.append_record(&apdu).map(|change| change.make(image)),
         (0x00, 0xB2) => card.read_record(&apdu, image, &mut reply),
         (0x00, 0xA2) => card.search_record(&apdu, image, &mut reply),
         (0x80, 0x5E) => card.fmm(&apdu, &mut reply),
@@ -72,7 +88,20 @@ pub fn run(
     })
 }
 
-/// The card and the session that a command meets. Each command gives the session after it.
+/// The stores of a command in their order. Only an APPEND RECORD or ACTIVATE that would be answered
+/// 9000 has some. UPDATE BINARY writes too, but has no list.
+pub fn stores(layout: &Layout, session: &Session, bytes: &[u8]) -> Vec<Store> {
+    let card = Card { layout, session };
+    let change = match Apdu::parse(bytes) {
+        Some(apdu) if (apdu.cla, apdu.ins) == (0x00, 0x44) => card.activate(&apdu),
+        Some(apdu) if (apdu.cla, apdu.ins) == (0x00, 0xE2) => card.append_record(&apdu),
+        _ => return vec![],
+    };
+    change.map_or(vec![], |change| change.stores)
+}
+
+/// The card and the session that a command meets. Each command gives the session after it, within
+/// a [`Change`] where it has stores.
 struct Card<'a> {
     layout: &'a Layout,
     session: &'a Session,
@@ -177,17 +206,19 @@ impl Card<'_> {
     }
 
     /// ACTIVATE of the current file.
-    fn activate(&self, apdu: &Apdu, image: &mut [u8]) -> Result<Session, Status> {
+    fn activate(&self, apdu: &Apdu) -> Result<Change, Status> {
         require(apdu.p1_p2() == 0x0000, WRONG_P1_P2)?;
         require(apdu.data.is_none() && apdu.le.is_none(), WRONG_LENGTH)?;
         let file = self.current_file()?;
-        self.writable_file(&file)?.activate(image);
-        Ok(*self.session)
+        Ok(Change {
+            stores: self.writable_file(&file)?.activate_stores(),
+            session: *self.session,
+        })
     }
 
     /// APPEND RECORD. The length is tested before the count and the room. The new record is
     /// current then.
-    fn append_record(&self, apdu: &Apdu, image: &mut [u8]) -> Result<Session, Status> {
+    fn append_record(&self, apdu: &Apdu) -> Result<Change, Status> {
         require(apdu.p1 == 0 && apdu.p2 & 0x07 == 0, WRONG_P1_P2)?;
         let record = data_without_le(apdu)?;
         let file = self.file_of_p2(apdu.p2)?;
@@ -199,8 +230,11 @@ impl Card<'_> {
             records.count < records.rule.most && records.fits(record.len()),
             NO_ROOM,
         )?;
-        let number = records.append(image, record);
-        Ok(self.session.setting_record(file.id(), number as u8))
+        let number = records.count as u8 + 1;
+        Ok(Change {
+            stores: records.append_stores(record),
+            session: self.session.setting_record(file.id(), number),
+        })
     }
 
     /// READ RECORD of one record, or of all from one on, joined and cut.

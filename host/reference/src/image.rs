@@ -1,10 +1,13 @@
-//! The card image: its rules, the files it holds, and the three changes a command may make.
+//! The card image: its rules, the files it holds, and the three changes a command may make. Two of
+//! these are given as lists of stores, which [`crate::stores`] makes.
 //!
 //! [`Layout::read`] checks the whole image once and notes where each file lies; no byte of
 //! the image is copied. Every file handed out by a layout is good for the image it was read
 //! from, until that image is changed.
 
 use std::ops::Range;
+
+use crate::stores::Store;
 
 /// The most bytes an image has.
 const LONGEST_IMAGE: usize = 262_144;
@@ -253,14 +256,22 @@ impl RecordFile {
         self.used + 2 + n <= self.length
     }
 
-    /// Puts a record that fits behind the last one and counts it. Returns its number.
-    pub fn append(&self, image: &mut [u8], record: &[u8]) -> usize {
-        let number = self.count + 1;
-        put_little_u16(image, self.start, number);
-        let at = self.start + self.used;
-        put_little_u16(image, at, record.len());
-        image[at + 2..at + 2 + record.len()].copy_from_slice(record);
-        number
+    /// The stores that put a record that fits behind the last one, in their order: its length,
+    /// its bytes, then the count. The count's low byte is last, for that alone makes it a record;
+    /// until then all else lies in free room. No count is above 254, so its high byte stays 0.
+    pub fn append_stores(&self, record: &[u8]) -> Vec<Store> {
+        let [length_low, length_high] = (record.len() as u16).to_le_bytes();
+        let [count_low, count_high] = (self.count as u16 + 1).to_le_bytes();
+        let free = self.start + self.used;
+        let written = [length_low, length_high]
+            .into_iter()
+            .chain(record.iter().copied());
+        let counted = [(self.start + 1, count_high), (self.start, count_low)];
+        (free..)
+            .zip(written)
+            .chain(counted)
+            .map(|(place, byte)| Store { place, byte })
+            .collect()
     }
 
     /// The body's bytes without count and lengths.
@@ -367,9 +378,12 @@ impl BiometricsFile {
         image[self.start + 1..room].copy_from_slice(&written.to_le_bytes());
     }
 
-    /// Sets the state to Activated.
-    pub fn activate(&self, image: &mut [u8]) {
-        image[self.start] = 1;
+    /// The one store that sets the state to Activated.
+    pub fn activate_stores(&self) -> Vec<Store> {
+        vec![Store {
+            place: self.start,
+            byte: 1,
+        }]
     }
 }
 
@@ -652,9 +666,4 @@ fn little_u32(bytes: &[u8]) -> Option<usize> {
     bytes
         .first_chunk()
         .and_then(|first| usize::try_from(u32::from_le_bytes(*first)).ok())
-}
-
-/// Puts a number below 2^16 into two bytes, little-endian.
-fn put_little_u16(bytes: &mut [u8], at: usize, number: usize) {
-    bytes[at..at + 2].copy_from_slice(&(number as u16).to_le_bytes());
 }

@@ -4,12 +4,14 @@
 //! definitions. `docs/RULES.md` states these rules.
 //!
 //! The parts, from the lowest up:
+//! - `stores`: single byte stores, made in their order;
 //! - `image`: the card image, its rules, its files and the changes to them;
 //! - `rights`: the rights of a certificate chain;
 //! - `session`: rights, selected application and current place;
 //! - `apdu` and `objects`: readers of the command's shape and its data objects;
 //! - `search`: whether a string occurs in a window;
 //! - `commands`: the eight commands, READ BINARY in its two forms;
+//! - `cut`: what a cut amid a command leaves of the image;
 //! - `moving`: the move of a card to rooms of other sizes;
 //! - `certificates`: the certificate that a stamp names, on the card or in the desk's copy;
 //! - `index`: the places of a body's records, kept to read a record without a walk;
@@ -21,6 +23,7 @@
 mod apdu;
 mod certificates;
 mod commands;
+mod cut;
 mod extensions;
 mod image;
 mod index;
@@ -30,6 +33,7 @@ mod rights;
 mod search;
 mod session;
 pub mod stamp;
+mod stores;
 
 use image::Layout;
 use rights::Rights;
@@ -95,11 +99,9 @@ pub fn command(image: &mut [u8], session: &mut [u8], command: &[u8], response: &
     if response.len() < SHORTEST_RESPONSE {
         return Refusal::Response.result();
     }
-    let Some(layout) = Layout::read(image) else {
-        return Refusal::Image.result();
-    };
-    let Some(before) = read_session(session).filter(|given| given.fits(&layout)) else {
-        return Refusal::Session.result();
+    let (layout, before) = match read_card(image, session) {
+        Ok(read) => read,
+        Err(refusal) => return refusal.result(),
     };
     match commands::run(image, &layout, &before, command, response) {
         Ok(done) => {
@@ -107,6 +109,23 @@ pub fn command(image: &mut [u8], session: &mut [u8], command: &[u8], response: &
             answer(response, done.data, commands::OK)
         }
         Err(status) => answer(response, 0, status),
+    }
+}
+
+/// What a cut behind so many stores of a command leaves of the image: makes the first `stores` of
+/// its stores, all where it has fewer. The session is only read.
+///
+/// APPEND RECORD of n bytes has n + 4 stores of one byte each: the record's length (low byte, high
+/// byte), its bytes, the count's high byte, the count's low byte. ACTIVATE has one, that of the
+/// state. Any other command has none, and neither has one of these two that would not be answered
+/// 9000 with a response buffer that is long enough.
+///
+/// Refusals are tested in the order 2, 4. The image stays then. The result is refusal * 2^32 + how
+/// many stores the command has in all.
+pub fn cut(image: &mut [u8], session: &[u8], command: &[u8], stores: usize) -> u64 {
+    match cut::cut(image, session, command, stores) {
+        Ok(all) => all as u64,
+        Err(refusal) => refusal.result(),
     }
 }
 
@@ -212,6 +231,15 @@ pub fn rights(first: &[u8], second: &[u8], third: &[u8], rights: &mut [u8]) -> u
     };
     *written = chain;
     result
+}
+
+/// The card and the session that a call is given: refusal 2, then 4.
+fn read_card(image: &[u8], session: &[u8]) -> Result<(Layout, Session), Refusal> {
+    let layout = Layout::read(image).ok_or(Refusal::Image)?;
+    let session = read_session(session)
+        .filter(|given| given.fits(&layout))
+        .ok_or(Refusal::Session)?;
+    Ok((layout, session))
 }
 
 /// The session in the first 25 bytes of a buffer, if they are one.

@@ -1,4 +1,7 @@
 -- The new record is counted before it is appended: its number is the count of before, plus 1.
+use mathlib.Core.Path.{_∙_}
+use native.Mathlib.Omega.{arith}
+use Rattle.store_image.proofs.Laws.{append-all}
 use Rattle.machine_answer.proofs.Saying.{says-only, placed-same}
 use borrow.Author.Needs.{needs}
 use Rattle.machine_answer.proofs.append.Statement.{statement}
@@ -10,11 +13,14 @@ body-requires c κs = search needs
 count-requires : tie.Need-count-requires
 count-requires c κs = search needs
 
-append-requires : tie.Need-append-requires
-append-requires c κs = search needs
+add-make-stores : tie.Need-add-make-stores
+add-make-stores c = search needs
 
-add-t14 : tie.Need-add-t14
-add-t14 c = search needs
+make-stores-requires : tie.Need-make-stores-requires
+make-stores-requires c κs = search needs
+
+add-t10 : tie.Need-add-t10
+add-t10 c = search needs
 
 placed-requires : tie.Need-placed-requires
 placed-requires c κs = search needs
@@ -29,7 +35,10 @@ same-length-2 : tie.Need-same-length-2
 same-length-2 c = search needs
 
 returns : tie.Need-returns
-returns c = says-only _ _ _ _ (placed-same (c .before .before .before .before .before .before .before .before .before .before .before .before .before .before .before .args .s) _ (c .before .before .before .before .before .before .before .before .before .before .body .ensures) (c .before .before .before .before .before .before .before .before .before .count .ensures .0) (c .before .before .before .before .placed .ensures)) (c .before .before .before .before .before .before .before .append .ensures .1) (c .before .before .status-only .ensures)
+returns c =
+    let a = c .before .before .before .before .before .before .before .before .before .before .before .before .before .before .before .args in
+    says-only _ _ _ _ (placed-same (a .s) _ (c .before .before .before .before .before .before .before .before .before .before .body .ensures) (c .before .before .before .before .before .before .before .before .before .count .ensures .0) (c .before .before .before .before .placed .ensures))
+    (c .before .before .before .before .before .before .before .make-stores .ensures .1 ∙ append-all _ _ _ _ (omega arith)) (c .before .before .status-only .ensures)
 
 pub append-spec : {M : Type 1} → statement M
 append-spec =
@@ -37,8 +46,9 @@ append-spec =
     (tie.spec
     body-requires
     count-requires
-    append-requires
-    add-t14
+    add-make-stores
+    make-stores-requires
+    add-t10
     placed-requires
     status-only-requires
     same-length

@@ -1,6 +1,7 @@
 -- `store_image::update` meets its contract.
 use Prim.Native.Nat.{_+_, _≤_}
 use mathlib.Core.Path.{sym, _∙_}
+use mathlib.Core.Bool.{false}
 use native.Mathlib.Omega.{arith}
 use lib.ListN.{length}
 use denote.Ref.{now}
@@ -30,7 +31,7 @@ unfolding updateIn
 returns c =
     let a = c .before .before .before .before .before .before .args in
     let d = now (a .«data») in
-    lent-missing _ _ (λ x. updatable x (a .offset) (length d)) (λ x. update x (a .offset) d) (sym (c .before .before .find .ensures) ∙ c .enum-told .given .1) (updatable-empty _ _)
+    lent-missing _ _ (λ x. updatable x (a .offset) (length d)) (λ x. update x (a .offset) d) false (sym (c .before .before .find .ensures) ∙ c .enum-told .given .1) (updatable-empty _ _)
 
 -- the section that was found lies within the image
 inside : (c : tie.After-known-told) → c .before .start .given .0 .0 + c .before .start .given .0 .1 .0 ≤ length (now (c .before .before .before .before .before .before .before .args .image))

@@ -1,0 +1,2 @@
+-- A command that is cut.
+pub mod Cutting

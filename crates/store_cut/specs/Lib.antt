@@ -1,0 +1,2 @@
+-- The stores of APPEND RECORD and ACTIVATE, in order.
+pub mod Stores
