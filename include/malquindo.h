@@ -120,13 +120,14 @@ uint64_t malquindo_command(uint8_t *image, size_t image_len, uint8_t *session, s
  * low byte and the high byte of the record's length, the record's bytes, the high byte of the file's count and last the low
  * byte of the count. ACTIVATE has one: the state. With the last store the command is done; before it, every file holds what
  * it held before the command. What an append left in the free room does not matter: the next append uses that room.
+ * This is the order in the source. A compiler or a memory may change it (docs/AUDIT.md).
  *
  * Where the command is one of these two and malquindo_command would answer it with 0x9000, the first `stores` of its stores
  * are made. A number beyond the last one is the whole command. Any other command changes nothing here, and neither do these
  * two where they would get another status. UPDATE BINARY is among the others, though it writes the image.
  *
  * The lower 32 bits of the result are how many stores the whole command has, 0 where it changes nothing here. Session and
- * command are only read, and may overlap: the session is still the one from before the command, and fits the image.
+ * command are only read, and may overlap each other. The session stays as before the command; it still fits the image.
  *
  * Refusals, tested in this order: 2, 4. The image then stays as it came. */
 uint64_t malquindo_cut(uint8_t *image, size_t image_len, const uint8_t *session, size_t session_len,

@@ -111,7 +111,7 @@ A status word is an answer, whatever it says. A call that gets none is refused, 
     ...
     malquindo.Refused: 2 BAD_IMAGE: the image is not well formed
 
-rights, open, command, cut, move_card, file, certificate, Index and read_stamp are for most callers. malquindo_rights, malquindo_open,
+rights, open, command, move_card, file, certificate, Index and read_stamp are for most callers, cut for testers. malquindo_rights, malquindo_open,
 malquindo_command, malquindo_cut, malquindo_move, malquindo_file, malquindo_certificate, malquindo_index_build, malquindo_index_extend,
 malquindo_index_read and malquindo_stamp_read are the functions of the header themselves: they take every buffer of the call and answer the
 number of 64 bits, so that a test can lend a buffer that is too short.

@@ -62,7 +62,7 @@ Each line is answered. Spaces may stand anywhere in a command and in the bytes o
   certificate 07              shows the certificate that a stamp names by 07
   certificate 07 other.card   looks for it on the card, and then in the card image of a file
   stamp 07                    reads record 07, in hexadecimal, of EntryRecords as a stamp; `stamp 07 exit` of ExitRecords
-  cut 3 00 E2 00 08 01 55     leaves the card as it is where the power goes behind 3 of the command's single byte stores
+  cut 3 00 E2 00 08 01 55     leaves the card as a power cut after the command's first 3 single byte stores does
   move new.card 0101 100 0102 50 011A 40
                               writes the card with other rooms into a new file
   help                        writes this
@@ -483,7 +483,7 @@ def cut_appends(c):
         mark, number = bytes([mark]), len(c.exits) + 1
         lost, later = mark + b"\x01", mark + b"\x02\x03"
         whole = stores >= 6
-        c.says(f"cut {stores} 00E2001002{lost.hex()}", "= all 6 stores made" if whole else f"= {stores} of 6 stores made")
+        c.says(f"cut {stores} 00E2001002{lost.hex()}", f"= stores made: {6 if whole else stores} of 6")
         c.command(read(number, 4), lost.hex() + "9000" if whole else "6A83")
         c.command(f"00E2001003{later.hex()}", "9000")
         c.exits += [lost, later] if whole else [later]
@@ -500,7 +500,7 @@ def cut_others(c):
     c.exits += [b"\xC0", b"\xC1"]
     where = f"= session: travel, ExitRecords, record {len(c.exits) - 1}"
     c.says("session", where)
-    c.says(" cut\t007  00 E2 00 10 01 c1 # two more than there are", "= all 5 stores made")
+    c.says(" cut\t007  00 E2 00 10 01 c1 # two more than there are", "= stores made: 5 of 5")
     # an append to a full file, a record that is read, SELECT, no command, a class that APPEND RECORD does not have
     for line in ("cut 5 00E20008010A", "cut 0 00E20008010A", "cut 5 00B2010C000000", "cut 5 00A4040C07A0000002472003", "cut 5 00",
                  "cut 5 80 E2 00 10 01 FF"):
@@ -520,9 +520,9 @@ def cut_activation(c):
         c.command(line, "9000")
     c.says("cut 9 " + update.replace("AABB", "CCDD"), NO_STORES)
     c.command(read, "AABB9000")
-    c.says("cut 0 00440000", "= 0 of 1 stores made")
+    c.says("cut 0 00440000", "= stores made: 0 of 1")
     c.command(update, "9000")
-    c.says("cut 1 00440000", "= all 1 stores made")
+    c.says("cut 1 00440000", "= stores made: 1 of 1")
     c.says("session", "= session: biometrics, Biometrics 1")
     c.command(update, "6982")
     c.says("cut 1 00440000", NO_STORES)

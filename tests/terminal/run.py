@@ -332,11 +332,11 @@ def test_cut_commands(folder):
 
     for k in (*range(len(stores) + 2), 2**64 - 1):
         name = write(folder, "cut.card", card(files))
-        made = f"all {len(stores)}" if k >= len(stores) else f"{k} of {len(stores)}"
+        made = f"{min(k, len(stores))} of {len(stores)}"
         left = bytearray(card(files))
         for place, byte in stores[:k]:
             left[place] = byte
-        assert cut_command(folder, name, [SELECT[1]], f"cut {k} {append(1, record)}", f"= {made} stores made") == left, k
+        assert cut_command(folder, name, [SELECT[1]], f"cut {k} {append(1, record)}", f"= stores made: {made}") == left, k
         held = [b"first", record] if k >= len(stores) else [b"first"]
         status, out, err = run(folder, "\n".join((SELECT[1], append(1, later), "show")).encode(), name)
         assert (status, err, out.count("Normal processing")) == (0, "", 2)
@@ -345,12 +345,12 @@ def test_cut_commands(folder):
         assert after == {**files, 0x0101: after[0x0101]}
     name = write(folder, "cut.card", card(files))
     activated = {**files, 0x0405: biometrics_body(1, b"abc", 9)}
-    for line, answer, left in (("cut 0 00440000", "= 0 of 1 stores made", files), ("cut 5 " + update(5, 0, b"X"), cases.NO_STORES, files),
-                               ("cut 1 00440000", "= all 1 stores made", activated)):
+    for line, answer, left in (("cut 0 00440000", "= stores made: 0 of 1", files), ("cut 5 " + update(5, 0, b"X"), cases.NO_STORES, files),
+                               ("cut 1 00440000", "= stores made: 1 of 1", activated)):
         assert cut_command(folder, name, [SELECT[3], "00A4020C020205"], line, answer) == card(left)
     # without a file the card to try is cut; a line that cannot be read ends with status 1
     status, out, err = run(folder, f"{SELECT[1]}\ncut 3 {append(1, record)}\ncut 3\n".encode())
-    assert (status, out.split("\n")[2], err) == (1, "= 3 of 10 stores made", cases.CANNOT + "cut 3\n")
+    assert (status, out.split("\n")[2], err) == (1, "= stores made: 3 of 10", cases.CANNOT + "cut 3\n")
 
 
 def test_stops(folder, stops, rng):

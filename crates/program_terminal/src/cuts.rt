@@ -14,15 +14,11 @@ fn tell(stores: usize, all: usize) {
         program_console::word(b"= no stores: nothing is changed\n");
         return;
     }
-    program_console::word(b"= ");
-    if stores < all {
-        program_console::number(stores as u64);
-        program_console::word(b" of ");
-    } else {
-        program_console::word(b"all ");
-    }
+    program_console::word(b"= stores made: ");
+    program_console::number(base::natural::min(stores, all) as u64);
+    program_console::word(b" of ");
     program_console::number(all as u64);
-    program_console::word(b" stores made\n");
+    program_console::end();
 }
 
 // Cuts a command, keeps what it changed, and then says how many stores were made. The session is only read.

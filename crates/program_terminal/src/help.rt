@@ -51,7 +51,7 @@ fn others() {
         b"  stamp 07                    reads record 07, in hexadecimal, of EntryRecords as a stamp; `stamp 07 exit` of ExitRecords\n",
     );
     program_console::word(
-        b"  cut 3 00 E2 00 08 01 55     leaves the card as it is where the power goes behind 3 of the command's single byte stores\n",
+        b"  cut 3 00 E2 00 08 01 55     leaves the card as a power cut after the command's first 3 single byte stores does\n",
     );
     program_console::word(b"  move new.card 0101 100 0102 50 011A 40\n");
     program_console::word(

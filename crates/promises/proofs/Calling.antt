@@ -317,7 +317,7 @@ c-cuts img ses cmd n =
       refusal = λ y. simp y (omega arith);
       stores = cut-told img ses cmd n;
       image = cut-image img ses cmd n;
-      malformed = λ e. (simp e (by-cases (wellFormed img) (λ w. simp w (List·Memᴰ·tail (List·Memᴰ·head refl))) (λ w. simp w (List·Memᴰ·head refl))), cut-image-kept img ses cmd n e);
+      malformed = λ e. (simp e (by-cases (wellFormed img) (λ w. simp w) (λ w. simp w)), cut-image-kept img ses cmd n e);
     }
 
 afterCall-same : (img : List ℕ) (c : CCall) → afterCallC img c ≡ afterCall img (meaning c)

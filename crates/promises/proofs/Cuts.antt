@@ -1,4 +1,5 @@
--- What a cut leaves (`cut-stores`, `cut-leaves`, `append-in-order`). Read ../specs/Cuts.antt before.
+-- What a cut leaves. Read ../specs/Cuts.antt before. Exports `cut-stores`, `cut-leaves`; `Cutting` and `cutting` (what a cut is: of an append, of an activation, or of a
+-- command without stores), `append-or-activate`, `p2-of`, `long`.
 use Prim.Native.Nat.{ℕ, zero, suc, _+_, _/_, _%_, _≤_, _<_}
 use mathlib.Core.Path.{_≡_, refl, sym, ap, ap₂, subst, _∙_}
 use mathlib.Core.Bool.{Bool, true, false}
@@ -8,7 +9,7 @@ use native.Mathlib.Nat.{add-suc}
 use lib.ListN.{length, take, drop, set, replicate, length-replicate, length-set, length-take, length-append}
 use lib.Seq.{set-append-left, length-take-le, take-nil}
 use lib.Dec.{eqb, leb}
-use borrow.Author.Tests.{eqb-true, eqb-false, ltb-true, leb-true, leb-false}
+use borrow.Author.Tests.{eqb-true, eqb-false, ltb-true, le-ltb}
 use Rattle.base.specs.Bytes.{part, splice}
 use Rattle.base.proofs.Cases.{by-cases, ifElse-ind, false-true, allOf-accepted}
 use Rattle.store_records.specs.Body.{count, used, recordBytes}
@@ -38,6 +39,7 @@ use Rattle.machine_session.specs.declared.ResolvedRecord.the-variants.{RecordAt
 use Rattle.machine_action.specs.Tests.{orCurrent}
 use Rattle.machine_dispatch.specs.Decide.{decide, dataOf}
 use Rattle.machine_dispatch.proofs.Allowing.{Pair, From, FromShape, decide-from}
+use Rattle.machine_session.proofs.Steps.{BiometricsResolved}
 use Rattle.machine_answer.specs.Outcome.{Outcome, says}
 use Rattle.machine.specs.Effects.{done}
 use Rattle.machine.specs.Step.{stepBy, step}
@@ -46,7 +48,7 @@ use Rattle.machine_cut.specs.Cutting.{storing, cutStores, cutImage, CutOutcome,
 use Rattle.machine_cut.specs.declared.Storage.{Storage}
 use Rattle.machine_cut.specs.declared.Storage.the-variants.{To, Nothing as StoresNothing}
 use Rattle.promises.specs.Calls.{Cut, afterCall, isPair}
-use Rattle.promises.specs.Cuts.{uncut, Stores-there, Cut-stores, SameContent, Left, Cut-leaves}
+use Rattle.promises.specs.Cuts.{Stores-there, Cut-stores, SameContent, Left, Cut-leaves}
 use Rattle.promises.proofs.Answering.{accepted-facts}
 use Rattle.promises.proofs.Deciding.{pair-facts, data-is}
 use Rattle.promises.proofs.Growing.{accepts, call-grown}
@@ -54,24 +56,21 @@ use Rattle.promises.proofs.Fitting.{call-fits}
 
 -- ---- the whole command has the verdict of the cut
 
-module _ (img : List ℕ) (s : Session) (cmd : List ℕ) where
-  abbrev judged : Verdict
-  judged = verdict img (sessionFits img s) 2050
+abbrev judged : List ℕ → Session → Verdict
+judged img s = verdict img (sessionFits img s) 2050
 
-  abbrev long : List ℕ
-  long = replicate 2050 0
+module _ (img : List ℕ) (s : Session) (cmd buf : List ℕ) (enough : 2050 ≤ length buf) where
+  whole-by : step img s cmd buf ≡ stepBy (judged img s) img s cmd buf
+  unfolding step verdict
+  whole-by = simp (le-ltb (length buf) 2050 enough)
 
-  uncut-by : uncut img s cmd ≡ stepBy judged img s cmd long
-  unfolding uncut step
-  uncut-by = ap (λ (n : ℕ). stepBy (verdict img (sessionFits img s) n) img s cmd long) (length-replicate {A = ℕ} 2050 0)
-
-  module _ (e : judged ≡ Accepted) where
+  module _ (e : judged img s ≡ Accepted) where
     well : wellFormed img ≡ true
     well = accepted-facts img s 2050 e .0
 
-    uncut-at : uncut img s cmd ≡ done (decide img s cmd) img s (dataOf cmd) long
+    whole-at : step img s cmd buf ≡ done (decide img s cmd) img s (dataOf cmd) buf
     unfolding stepBy
-    uncut-at = uncut-by ∙ ap (λ (v : Verdict). stepBy v img s cmd long) e
+    whole-at = whole-by ∙ ap (λ (v : Verdict). stepBy v img s cmd buf) e
 
     cut-at : (n : ℕ) → cut img s cmd n ≡ cutBy Accepted img s cmd n
     unfolding cut
@@ -81,10 +80,10 @@ module _ (img : List ℕ) (s : Session) (cmd : List ℕ) where
 
 module _ (img : List ℕ) (s : Session) (f : Frame) (d buf : List ℕ) where
   -- an action answers 9000 to no command with CLA 00 and INS i
-  abbrev pub Not : ℕ → Action → Type 0
+  abbrev Not : ℕ → Action → Type 0
   Not i x = isPair f 0x00 i ≡ true → done x img s d buf .answer .status ≡ 0x9000 → ⊥
 
-  pub data Way (x : Action) : Type 0 where
+  data Way (x : Action) : Type 0 where
     appends : (r : Rule) → x ≡ AppendRecord r → From img s f d (AppendRecord r) → Way x
     activates : (b : ℕ) → x ≡ Activate b → From img s f d (Activate b) → Way x
     neither : storing x ≡ StoresNothing → Not 0xE2 x → Not 0x44 x → Way x
@@ -110,10 +109,10 @@ module _ (img : List ℕ) (s : Session) (f : Frame) (d buf : List ℕ) where
   way (ReadBinaryOdd t a n) h = by-pair 0x00 0xB1 _ refl (h .0) (λ c i. omega (arith, i)) (λ c i. omega (arith, i))
 
 -- the way of a command that is accepted and has a shape
-module _ (img : List ℕ) (s : Session) (cmd : List ℕ) (f : Frame) (e : shapeOf cmd ≡ Good f) where
-  pub cut-way : Way img s f (dataOf cmd) (replicate 2050 0) (decide img s cmd)
+module _ (img : List ℕ) (s : Session) (cmd buf : List ℕ) (f : Frame) (e : shapeOf cmd ≡ Good f) where
+  cut-way : Way img s f (dataOf cmd) buf (decide img s cmd)
   cut-way =
-      way img s f (dataOf cmd) (replicate 2050 0) (decide img s cmd)
+      way img s f (dataOf cmd) buf (decide img s cmd)
       (subst (λ (l : List ℕ). From img s f l (decide img s cmd)) (sym (data-is cmd f e))
       (subst (λ (a : Apdu). FromShape img s cmd a (decide img s cmd)) e (decide-from img s cmd)))
 
@@ -141,44 +140,44 @@ abbrev pub p2-of : Apdu → ℕ
 p2-of Bad = 0
 p2-of (Good f) = f .header .p2 / 8
 
-module _ (img : List ℕ) (s : Session) (cmd : List ℕ) (n : ℕ) where
+module _ (img : List ℕ) (s : Session) (cmd : List ℕ) (n : ℕ) (buf : List ℕ) (enough : 2050 ≤ length buf) where
   abbrev pub c : CutOutcome
   c = cut img s cmd n
 
   abbrev pub o : Outcome
-  o = uncut img s cmd
+  o = step img s cmd buf
 
-  refused-or : {P : Type 0} → ((r : Refusal) → judged img s cmd ≡ Refused r → P) → (judged img s cmd ≡ Accepted → P) → P
-  refused-or {P} f g = go (judged img s cmd) refl
+  refused-or : {P : Type 0} → ((r : Refusal) → judged img s ≡ Refused r → P) → (judged img s ≡ Accepted → P) → P
+  refused-or {P} f g = go (judged img s) refl
     where
-      go : (v : Verdict) → judged img s cmd ≡ v → P
+      go : (v : Verdict) → judged img s ≡ v → P
       go Accepted e = g e
       go (Refused r) e = f r e
 
-  cut-verdict : c .answer .verdict ≡ judged img s cmd
+  cut-verdict : c .answer .verdict ≡ judged img s
   unfolding cut
-  cut-verdict = go (judged img s cmd)
+  cut-verdict = go (judged img s)
     where
       go : (v : Verdict) → cutBy v img s cmd n .answer .verdict ≡ v
       go Accepted = refl
       go (Refused r) = refl
 
-  refused-stores : (r : Refusal) → judged img s cmd ≡ Refused r → c .answer .stores ≡ 0
+  refused-stores : (r : Refusal) → judged img s ≡ Refused r → c .answer .stores ≡ 0
   unfolding cut
   refused-stores r e = ap (λ (v : Verdict). cutBy v img s cmd n .answer .stores) e
 
-  refused-status : (r : Refusal) → judged img s cmd ≡ Refused r → (o .answer .status ≡ 0x9000 → ⊥)
+  refused-status : (r : Refusal) → judged img s ≡ Refused r → (o .answer .status ≡ 0x9000 → ⊥)
   unfolding stepBy
-  refused-status r e z = absurd (omega (arith, z, ap (λ (x : Outcome). x .answer .status) (uncut-by img s cmd ∙ ap (λ (v : Verdict). stepBy v img s cmd (replicate 2050 0)) e)))
+  refused-status r e z = absurd (omega (arith, z, ap (λ (x : Outcome). x .answer .status) (whole-by img s cmd buf enough ∙ ap (λ (v : Verdict). stepBy v img s cmd buf) e)))
 
-  stores-at : judged img s cmd ≡ Accepted → c .answer .stores ≡ cutStores (storing (decide img s cmd)) img (dataOf cmd)
-  stores-at e = ap (λ (x : CutOutcome). x .answer .stores) (cut-at img s cmd e n)
+  stores-at : judged img s ≡ Accepted → c .answer .stores ≡ cutStores (storing (decide img s cmd)) img (dataOf cmd)
+  stores-at e = ap (λ (x : CutOutcome). x .answer .stores) (cut-at img s cmd buf enough e n)
 
-  image-at : judged img s cmd ≡ Accepted → c .image ≡ cutImage n (storing (decide img s cmd)) img (dataOf cmd)
-  image-at e = ap (λ (x : CutOutcome). x .image) (cut-at img s cmd e n)
+  image-at : judged img s ≡ Accepted → c .image ≡ cutImage n (storing (decide img s cmd)) img (dataOf cmd)
+  image-at e = ap (λ (x : CutOutcome). x .image) (cut-at img s cmd buf enough e n)
 
-  status-at : judged img s cmd ≡ Accepted → o .answer .status ≡ done (decide img s cmd) img s (dataOf cmd) (replicate 2050 0) .answer .status
-  status-at e = ap (λ (x : Outcome). x .answer .status) (uncut-at img s cmd e)
+  status-at : judged img s ≡ Accepted → o .answer .status ≡ done (decide img s cmd) img s (dataOf cmd) buf .answer .status
+  status-at e = ap (λ (x : Outcome). x .answer .status) (whole-at img s cmd buf enough e)
 
   same-frame : (f g : Frame) → shapeOf cmd ≡ Good f → shapeOf cmd ≡ Good g → (i : ℕ) → isPair g 0x00 i ≡ true → isPair f 0x00 i ≡ true
   same-frame f g y z i = subst (λ (a : Apdu). pairOf a i ≡ true) (sym z ∙ y)
@@ -195,14 +194,12 @@ module _ (img : List ℕ) (s : Session) (cmd : List ℕ) (n : ℕ) where
   abbrev pub d : List ℕ
   d = dataOf cmd
 
-  abbrev pub long-buffer : List ℕ
-  long-buffer = replicate 2050 0
-
   -- what a cut is: of an append, of an activation, or of a command without stores
   pub data Cutting : Type 0 where
     append-cut : wellFormed img ≡ true → PairOf (shapeOf cmd) 0xE2 → (r : Rule) → resolveRecord img s Append (orCurrent (p2-of (shapeOf cmd))) ≡ RecordAt r → Accepts img (r .kind) r (length d)
-        → c .answer .stores ≡ length d + 4 → c .image ≡ makeStoresIn n img (r .kind) Record d → o ≡ done (AppendRecord r) img s d long-buffer → Cutting
-    activate-cut : wellFormed img ≡ true → PairOf (shapeOf cmd) 0x44 → (k : ℕ) → (isBiometrics k ≡ true) × (has img k ≡ true) → c .answer .stores ≡ 1 → c .image ≡ makeStoresIn n img k State d → o .image ≡ activateIn img k
+        → c .answer .stores ≡ length d + 4 → c .image ≡ makeStoresIn n img (r .kind) Record d → o ≡ done (AppendRecord r) img s d buf → Cutting
+    activate-cut : wellFormed img ≡ true → PairOf (shapeOf cmd) 0x44 → (b : ℕ) → decide img s cmd ≡ Activate b → BiometricsResolved img s b
+        → c .answer .stores ≡ 1 → c .image ≡ makeStoresIn n img (biometricsKind b) State d → o .image ≡ activateIn img (biometricsKind b)
         → o .answer .status ≡ 0x9000 → Cutting
     no-cut : c .answer .stores ≡ 0 → c .image ≡ img
         → ((f : Frame) → shapeOf cmd ≡ Good f → isPair f 0x00 0xE2 ≡ true → o .answer .status ≡ 0x9000 → ⊥)
@@ -211,40 +208,40 @@ module _ (img : List ℕ) (s : Session) (cmd : List ℕ) (n : ℕ) where
   pub cutting : Cutting
   cutting = refused-or (λ r e. no-cut (refused-stores r e) (refused-image r e) (λ f z p w. refused-status r e w) (λ f z p w. refused-status r e w)) (λ e. by-shape e (shapeOf cmd) refl)
     where
-      refused-image : (r : Refusal) → judged img s cmd ≡ Refused r → c .image ≡ img
+      refused-image : (r : Refusal) → judged img s ≡ Refused r → c .image ≡ img
       refused-image r e = unfold cut in ap (λ (v : Verdict). cutBy v img s cmd n .image) e
 
-      decided-stores : (e : judged img s cmd ≡ Accepted) (x : Action) → decide img s cmd ≡ x → c .answer .stores ≡ cutStores (storing x) img d
+      decided-stores : (e : judged img s ≡ Accepted) (x : Action) → decide img s cmd ≡ x → c .answer .stores ≡ cutStores (storing x) img d
       decided-stores e x q = stores-at e ∙ ap (λ (y : Action). cutStores (storing y) img d) q
 
-      decided-image : (e : judged img s cmd ≡ Accepted) (x : Action) → decide img s cmd ≡ x → c .image ≡ cutImage n (storing x) img d
+      decided-image : (e : judged img s ≡ Accepted) (x : Action) → decide img s cmd ≡ x → c .image ≡ cutImage n (storing x) img d
       decided-image e x q = image-at e ∙ ap (λ (y : Action). cutImage n (storing y) img d) q
 
-      decided-outcome : (e : judged img s cmd ≡ Accepted) (x : Action) → decide img s cmd ≡ x → o ≡ done x img s d long-buffer
-      decided-outcome e x q = uncut-at img s cmd e ∙ ap (λ (y : Action). done y img s d long-buffer) q
+      decided-outcome : (e : judged img s ≡ Accepted) (x : Action) → decide img s cmd ≡ x → o ≡ done x img s d buf
+      decided-outcome e x q = whole-at img s cmd buf enough e ∙ ap (λ (y : Action). done y img s d buf) q
 
-      by-way : judged img s cmd ≡ Accepted → (f : Frame) → shapeOf cmd ≡ Good f → Way img s f d long-buffer (decide img s cmd) → Cutting
+      by-way : judged img s ≡ Accepted → (f : Frame) → shapeOf cmd ≡ Good f → Way img s f d buf (decide img s cmd) → Cutting
       by-way e f z (appends r q h) =
-          let w = well img s cmd e in
+          let w = well img s cmd buf enough e in
           let a = accepts img s cmd [] w d r (h .2) in
           append-cut w (subst (λ (x : Apdu). PairOf x 0xE2) (sym z) (h .0)) r (subst (λ (x : Apdu). resolveRecord img s Append (orCurrent (p2-of x)) ≡ RecordAt r) (sym z) (h .1)) a
           (decided-stores e (AppendRecord r) q ∙ append-stores img (r .kind) r d w a) (decided-image e (AppendRecord r) q) (decided-outcome e (AppendRecord r) q)
       by-way e f z (activates b q h) =
-          let w = well img s cmd e in
+          let w = well img s cmd buf enough e in
           let i = h .1 .file .ok in
           let u = decided-outcome e (Activate b) q in
-          activate-cut w (subst (λ (x : Apdu). PairOf x 0x44) (sym z) (h .0)) (biometricsKind b) (i .kind, i .stands)
+          activate-cut w (subst (λ (x : Apdu). PairOf x 0x44) (sym z) (h .0)) b q (h .1)
           (decided-stores e (Activate b) q ∙ activate-stores img (biometricsKind b) d w (i .kind) (i .stands)) (decided-image e (Activate b) q)
           (unfold done says in ap (λ (x : Outcome). x .image) u) (unfold done says in ap (λ (x : Outcome). x .answer .status) u)
       by-way e f z (neither t m k) =
           no-cut (stores-at e ∙ ap (λ (y : Storage). cutStores y img d) t) (image-at e ∙ ap (λ (y : Storage). cutImage n y img d) t)
           (λ g y p w. m (same-frame f g z y 0xE2 p) (sym (status-at e) ∙ w)) (λ g y p w. k (same-frame f g z y 0x44 p) (sym (status-at e) ∙ w))
 
-      by-shape : judged img s cmd ≡ Accepted → (a : Apdu) → shapeOf cmd ≡ a → Cutting
+      by-shape : judged img s ≡ Accepted → (a : Apdu) → shapeOf cmd ≡ a → Cutting
       by-shape e Bad z =
           let q = decided-refused img s cmd z in
           no-cut (decided-stores e (Status 0x6700) q) (decided-image e (Status 0x6700) q) (λ f y. absurd (bad-good f (sym z ∙ y))) (λ f y. absurd (bad-good f (sym z ∙ y)))
-      by-shape e (Good f) z = by-way e f z (cut-way img s cmd f z)
+      by-shape e (Good f) z = by-way e f z (cut-way img s cmd buf f z)
 
   -- INS E2 is not 44
   pub append-or-activate : (f : Frame) (i j : ℕ) → shapeOf cmd ≡ Good f → PairOf (shapeOf cmd) i → isPair f 0x00 j ≡ true → i ≡ j
@@ -256,7 +253,7 @@ module _ (img : List ℕ) (s : Session) (cmd : List ℕ) (n : ℕ) where
   unfolding isPair
   pair-of f i z p = let h : Pair f 0x00 i = subst (λ (a : Apdu). PairOf a i) z p in allOf-accepted _ (h .0, (h .1, tt))
 
-  stores-there : Stores-there img s cmd c
+  stores-there : Stores-there img s cmd buf c
   stores-there =
       record {
         verdict-same = cut-verdict;
@@ -270,27 +267,27 @@ module _ (img : List ℕ) (s : Session) (cmd : List ℕ) (n : ℕ) where
     where
       refused : Cutting → (o .answer .status ≡ 0x9000 → ⊥) → c .answer .stores ≡ 0
       refused (append-cut w p r e a m i u) ne = absurd (ne (unfold done says in ap (λ (x : Outcome). x .answer .status) u))
-      refused (activate-cut w p k b m i u z) ne = absurd (ne z)
+      refused (activate-cut w p b e r m i u z) ne = absurd (ne z)
       refused (no-cut m i x y) ne = m
 
       appended : Cutting → (f : Frame) → shapeOf cmd ≡ Good f → isPair f 0x00 0xE2 ≡ true → o .answer .status ≡ 0x9000 → c .answer .stores ≡ length d + 4
       appended (append-cut w p r e a m i u) f z q t = m
-      appended (activate-cut w p k b m i u t) f z q _ = absurd (omega (arith, append-or-activate f 0x44 0xE2 z p q))
+      appended (activate-cut w p b e r m i u t) f z q _ = absurd (omega (arith, append-or-activate f 0x44 0xE2 z p q))
       appended (no-cut m i x y) f z q t = absurd (x f z q t)
 
       activated : Cutting → (f : Frame) → shapeOf cmd ≡ Good f → isPair f 0x00 0x44 ≡ true → o .answer .status ≡ 0x9000 → c .answer .stores ≡ 1
       activated (append-cut w p r e a m i u) f z q t = absurd (omega (arith, append-or-activate f 0xE2 0x44 z p q))
-      activated (activate-cut w p k b m i u t) f z q _ = m
+      activated (activate-cut w p b e r m i u t) f z q _ = m
       activated (no-cut m i x y) f z q t = absurd (y f z q t)
 
       others : Cutting → (f : Frame) → shapeOf cmd ≡ Good f → isPair f 0x00 0xE2 ≡ false → isPair f 0x00 0x44 ≡ false → c .answer .stores ≡ 0
       others (append-cut w p r e a m i u) f z x y = false-true (sym x ∙ pair-of f 0xE2 z p)
-      others (activate-cut w p k b m i u t) f z x y = false-true (sym y ∙ pair-of f 0x44 z p)
+      others (activate-cut w p b e r m i u t) f z x y = false-true (sym y ∙ pair-of f 0x44 z p)
       others (no-cut m i x y) f z _ _ = m
 
       kept : Cutting → c .answer .stores ≡ 0 → c .image ≡ img
       kept (append-cut w p r e a m i u) z = absurd (omega (arith, m, z))
-      kept (activate-cut w p k b m i u t) z = absurd (omega (arith, m, z))
+      kept (activate-cut w p b e r m i u t) z = absurd (omega (arith, m, z))
       kept (no-cut m i x y) z = i
 
   -- ---- what a cut leaves
@@ -313,33 +310,37 @@ module _ (img : List ℕ) (s : Session) (cmd : List ℕ) (n : ℕ) where
     where
       no-rule : (k : ℕ) (q : Rule) → ruleOf (Kind k) ≡ Is q → isBiometrics k ≡ true → ⊥
       no-rule k q x b = let z : Nothing ≡ Is q = sym (biometrics-unruled k b) ∙ x in let y : _≡_ {A = ℕ} 0 1 = cc in omega (arith, y)
-  left-before (activate-cut w p k b m i u t) l =
+  left-before (activate-cut w p b e r m i u t) l =
       let z : n ≡ 0 = omega (arith, l, m) in
-      same-content (sym (i ∙ ap (λ (j : ℕ). makeStoresIn j img k State d) z ∙ none-made img k State d))
+      same-content (sym (i ∙ ap (λ (j : ℕ). makeStoresIn j img (biometricsKind b) State d) z ∙ none-made img (biometricsKind b) State d))
   left-before (no-cut m i x y) l = same-content (sym i)
 
   left-after : Cutting → 1 ≤ c .answer .stores → c .answer .stores ≤ n → c .image ≡ o .image
   left-after (append-cut w p r e a m i u) h l =
       i ∙ append-all img (r .kind) d n (omega (arith, m, l)) ∙ sym (unfold done says in ap (λ (x : Outcome). x .image) u)
-  left-after (activate-cut w p k b m i u t) h l = i ∙ activate-all img k d n (omega (arith, m, l)) ∙ sym u
+  left-after (activate-cut w p b e r m i u t) h l = i ∙ activate-all img (biometricsKind b) d n (omega (arith, m, l)) ∙ sym u
   left-after (no-cut m i x y) h l = absurd (omega (arith, h, m))
 
   left-places : Cutting → (k : ℕ) → find (c .image) k ≡ find img k
   left-places (append-cut w p r e a m i u) j = ap (λ (x : List ℕ). find x j) i ∙ stores-find img (r .kind) n Record d j
-  left-places (activate-cut w p k b m i u t) j = ap (λ (x : List ℕ). find x j) i ∙ stores-find img k n State d j
+  left-places (activate-cut w p b e r m i u t) j = ap (λ (x : List ℕ). find x j) i ∙ stores-find img (biometricsKind b) n State d j
   left-places (no-cut m i x y) j = ap (λ (z : List ℕ). find z j) i
 
+-- a buffer that is long enough
+pub long : 2050 ≤ length (replicate {A = ℕ} 2050 0)
+long = let l = length-replicate {A = ℕ} 2050 0 in omega (arith, l)
+
 pub cut-stores : Cut-stores
-cut-stores = stores-there
+cut-stores img s cmd buf n = stores-there img s cmd n buf
 
 pub cut-leaves : Cut-leaves
 unfolding afterCall
 cut-leaves img s cmd n w =
-    let g = cutting img s cmd n in
+    let g = cutting img s cmd n (replicate 2050 0) long in
     record {
       well = call-grown img (Cut s cmd n) w .well;
-      places = left-places img s cmd n g;
-      before = left-before img s cmd n g;
-      after = left-after img s cmd n g;
+      places = left-places img s cmd n (replicate 2050 0) long g;
+      before = left-before img s cmd n (replicate 2050 0) long g;
+      after = λ buf h. left-after img s cmd n buf h (cutting img s cmd n buf h);
       sessions = λ t. call-fits img (Cut s cmd n) t w;
     }

@@ -28,13 +28,32 @@ use Rattle.store_image.proofs.Laws.{Accepts, append-accepted, found-inside, fou
 use Rattle.store_files.specs.declared.File.the-variants.{RecordFile}
 use Rattle.machine_apdu.specs.Shape.{shapeOf}
 use Rattle.machine_apdu.specs.declared.Apdu.{Apdu}
-use Rattle.machine_session.specs.Resolve.{resolveRecord}
+use Rattle.machine_apdu.specs.declared.Apdu.the-variants.{Good}
+use Rattle.machine_apdu.specs.declared.Frame.{Frame}
+use Rattle.machine_session.specs.Session.{sessionFits}
+use Rattle.machine_session.specs.declared.Session.{Session}
+use Rattle.machine_session.specs.declared.Named.the-variants.{Current}
+use Rattle.machine_session.specs.declared.ResolvedBiometrics.{ResolvedBiometrics}
+use Rattle.machine_session.specs.declared.ResolvedBiometrics.the-variants.{BiometricsStop, BiometricsAt}
+use Rattle.machine_session.proofs.Steps.{inOrder-each}
+use Rattle.machine_session.specs.Resolve.{resolveRecord, resolveBiometrics}
 use Rattle.machine_session.specs.declared.Access.the-variants.{Append}
 use Rattle.machine_session.specs.declared.ResolvedRecord.the-variants.{RecordAt}
-use Rattle.machine_action.specs.Tests.{orCurrent}
-use Rattle.machine_dispatch.specs.Decide.{dataOf}
+use Rattle.machine_action.specs.Tests.{orCurrent, onBiometrics}
+use Rattle.machine_action.specs.declared.Action.{Action}
+use Rattle.machine_action.specs.declared.Action.the-variants.{Status, Activate}
+use Rattle.machine_binary.specs.Activate.{activateFile}
+use Rattle.machine_dispatch.specs.Decide.{byIns, byClass, decide, dataOf}
+use Rattle.machine.specs.Step.{step}
+use Rattle.machine.proofs.Accepting.{Known, verdict-accepted}
+use Rattle.machine_cut.specs.Cutting.{storing}
+use Rattle.machine_cut.specs.declared.Storage.{Storage}
+use Rattle.machine_cut.specs.declared.Storage.the-variants.{To, Nothing}
+use Rattle.promises.specs.Calls.{isPair}
 use Rattle.promises.specs.Cuts.{appendList, AppendCut, Append-in-order, ActivateCut, Activate-in-order}
-use Rattle.promises.proofs.Naming.{record-meant, record-listed, p2-meant, kind-meant}
+use Rattle.promises.proofs.Naming.{record-meant, record-listed, p2-meant, kind-meant, biometrics-writes}
+use Rattle.promises.proofs.Answering.{status-accepted}
+use Rattle.promises.proofs.Deciding.{pair-facts, class-decided}
 use Rattle.promises.proofs.Cuts.{p2-of, Cutting, append-cut, activate-cut, no-cut, cutting, append-or-activate}
 
 -- ---- a store in the middle of a list
@@ -148,10 +167,17 @@ module _ (img : List ℕ) (k s m : ℕ) (e : find img k ≡ At s m) (d : List �
       low : 2 ≤ used b
       low = unfold used in place-low b (count b)
 
+-- 9000 needs a buffer that is long enough
+enough : (img : List ℕ) (s : Session) (cmd buf : List ℕ) → step img s cmd buf .answer .status ≡ 0x9000 → 2050 ≤ length buf
+enough img s cmd buf w = subst (Known img (length buf)) (status-accepted img s cmd buf w) (verdict-accepted img (sessionFits img s) (length buf)) .1
+
 pub append-in-order : Append-in-order
-append-in-order img s cmd f n z p w = go (cutting img s cmd n)
+append-in-order img s cmd buf f n z p w = go (cutting img s cmd n buf long)
   where
-    go : Cutting img s cmd n → AppendCut img s cmd f n
+    long : 2050 ≤ length buf
+    long = enough img s cmd buf w
+
+    go : Cutting img s cmd n buf long → AppendCut img s cmd f n
     go (append-cut o q r e a c i u) = by (stands-at img (r .kind) (a .stands))
       where
         e′ : resolveRecord img s Append (orCurrent (f .header .p2 / 8)) ≡ RecordAt r
@@ -171,39 +197,71 @@ append-in-order img s cmd f n z p w = go (cutting img s cmd n)
               stored = i ∙ in-image img (r .kind) at-s m h n Record (dataOf cmd) (record-within img (r .kind) at-s m h (dataOf cmd) t)
                   ∙ ap (λ (ss : List Store). made (take n ss) img) (record-list img (r .kind) at-s m h (dataOf cmd) t);
             }
-    go (activate-cut o q k b c i u t) = absurd (omega (arith, append-or-activate img s cmd n f 0x44 0xE2 z q p))
+    go (activate-cut o q b e r c i u t) = absurd (omega (arith, append-or-activate img s cmd n buf long f 0x44 0xE2 z q p))
     go (no-cut m i x y) = absurd (x f z p w)
 
 -- ---- an activation
 
-pub activate-in-order : Activate-in-order
-activate-in-order img s cmd f n z p w = go (cutting img s cmd n)
+-- an ACTIVATE that is decided is of the current file
+activate-current : (img : List ℕ) (s : Session) (cmd : List ℕ) (f : Frame) (j : ℕ) → shapeOf cmd ≡ Good f → isPair f 0x00 0x44 ≡ true → decide img s cmd ≡ Activate j
+    → resolveBiometrics img s Current ≡ BiometricsAt j
+activate-current img s cmd f j z p e = tests (sym led ∙ e)
   where
-    go : Cutting img s cmd n → ActivateCut img s cmd n
-    go (append-cut o q r e a c i u) = absurd (omega (arith, append-or-activate img s cmd n f 0xE2 0x44 z q p))
-    go (activate-cut o q k b c i u t) = by (stands-at img k (b .1))
+    led : decide img s cmd ≡ activateFile img s f
+    led = let h = pair-facts f 0x00 0x44 p in class-decided cmd f z img s ∙ (unfold byClass byIns in simp (h .0, h .1))
+
+    -- whatever is decided, an activation of j is that of the file resolved
+    P : Action → Type 0
+    P x = x ≡ Activate j → resolveBiometrics img s Current ≡ BiometricsAt j
+
+    kindOf : Storage → ℕ
+    kindOf (To k w) = k
+    kindOf Nothing = 0
+
+    word : (w : ℕ) → P (Status w)
+    word w y = absurd (let v : 0 ≡ biometricsKind j = ap (λ (x : Action). kindOf (storing x)) y in omega (arith, v))
+
+    on : (x : ResolvedBiometrics) → resolveBiometrics img s Current ≡ x → P (onBiometrics x Activate)
+    on (BiometricsStop w) y v = word w v
+    on (BiometricsAt n) y v = y ∙ ap BiometricsAt (let k : biometricsKind n ≡ biometricsKind j = ap (λ (x : Action). kindOf (storing x)) v in omega (arith, k))
+
+    tests : P (activateFile img s f)
+    tests = unfold activateFile in inOrder-each P _ _ (word 0x6A86, (word 0x6700, tt)) (λ q. on (resolveBiometrics img s Current) refl)
+
+pub activate-in-order : Activate-in-order
+activate-in-order img s cmd buf f n z p w = go (cutting img s cmd n buf long)
+  where
+    long : 2050 ≤ length buf
+    long = enough img s cmd buf w
+
+    go : Cutting img s cmd n buf long → ActivateCut img s cmd n
+    go (append-cut o q r e a c i u) = absurd (omega (arith, append-or-activate img s cmd n buf long f 0xE2 0x44 z q p))
+    go (activate-cut o q b e r c i u t) = by (stands-at img k (r .file .ok .stands))
       where
+        k : ℕ
+        k = biometricsKind b
+
         ok : bioOk (body img k) ≡ true
-        ok = biometrics-file img k o (b .0) (b .1)
+        ok = biometrics-file img k o (r .file .ok .kind) (r .file .ok .stands)
+
+        within : (q m : ℕ) → find img k ≡ At q m → Within m (stores State (body img k) (dataOf cmd))
+        within q m h =
+            unfold stores in
+            let l = biometrics-facts (body img k) ok .long in
+            let nought : 0 < m = omega (arith, l, body-size img k q m h) in
+            simp ok (more nought none)
+
+        alone : (q : ℕ) → shifted q (stores State (body img k) (dataOf cmd)) ≡ at q 1 ∷ []
+        alone q = unfold stores shifted in simp ok (ap (λ (j : ℕ). at j 1 ∷ []) (add-zero q))
 
         by : Stands img k → ActivateCut img s cmd n
         by (stands at-s m h) =
             record {
-              kind = k;
+              number = b;
               start = at-s;
               room = m;
-              of-biometrics = b .0;
+              of-current = biometrics-writes img s Current b (activate-current img s cmd f b z p e) r;
               stands = h;
               stored = i ∙ in-image img k at-s m h n State (dataOf cmd) (within at-s m h) ∙ ap (λ (ss : List Store). made (take n ss) img) (alone at-s);
             }
-          where
-            within : (q m : ℕ) → find img k ≡ At q m → Within m (stores State (body img k) (dataOf cmd))
-            within q m h =
-                unfold stores in
-                let l = biometrics-facts (body img k) ok .long in
-                let nought : 0 < m = omega (arith, l, body-size img k q m h) in
-                simp ok (more nought none)
-
-            alone : (q : ℕ) → shifted q (stores State (body img k) (dataOf cmd)) ≡ at q 1 ∷ []
-            alone q = unfold stores shifted in simp ok (ap (λ (j : ℕ). at j 1 ∷ []) (add-zero q))
     go (no-cut m i x y) = absurd (y f z p w)

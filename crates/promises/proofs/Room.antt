@@ -4,7 +4,7 @@ use mathlib.Core.Path.{_≡_, refl, sym, ap, ap₂, subst, _∙_}
 use mathlib.Core.Bool.{Bool, true, false}
 use mathlib.Core.List.{List, [], _∷_, _++_}
 use native.Mathlib.Omega.{arith}
-use lib.ListN.{length}
+use lib.ListN.{length, replicate}
 use lib.Dec.{eqb, leb, ltb}
 use borrow.Author.Tests.{eqb-true, eqb-false}
 use Rattle.base.specs.Choice.{ifElse, allOf}
@@ -61,7 +61,7 @@ use Rattle.promises.specs.Calls.{Command, afterCall, isPair, addedBy, ad
 use Rattle.promises.specs.Cuts.{Room-used}
 use Rattle.promises.proofs.Deciding.{pair-facts, data-is, class-decided}
 use Rattle.promises.proofs.Growing.{call-grown}
-use Rattle.promises.proofs.Cuts.{Cutting, append-cut, activate-cut, no-cut, cutting, cut-leaves}
+use Rattle.promises.proofs.Cuts.{Cutting, append-cut, activate-cut, no-cut, cutting, long, cut-leaves}
 
 -- ---- two images with the same files, in which each file has as many records and as much room
 
@@ -215,12 +215,12 @@ module _ {img new : List ℕ} (t : Torn img new) (o : wellFormed img ≡ true) (
 -- ---- a cut before the last store leaves such an image
 
 torn : (img : List ℕ) (s : Session) (cmd : List ℕ) (n : ℕ) → n < cut img s cmd n .answer .stores → Torn img (cut img s cmd n .image)
-torn img s cmd n l = go (cutting img s cmd n)
+torn img s cmd n l = go (cutting img s cmd n (replicate 2050 0) long)
   where
     same : cut img s cmd n .image ≡ img → Torn img (cut img s cmd n .image)
     same e = record { places = λ k. ap (λ (x : List ℕ). find x k) e; counts = λ k. ap (λ (x : List ℕ). count (body x k)) e; uses = λ k. ap (λ (x : List ℕ). used (body x k)) e }
 
-    go : Cutting img s cmd n → Torn img (cut img s cmd n .image)
+    go : Cutting img s cmd n (replicate 2050 0) long → Torn img (cut img s cmd n .image)
     go (append-cut w p r e a m i u) = subst (Torn img) (sym i) (record { places = stores-find img (r .kind) n Record (dataOf cmd); counts = counts; uses = uses })
       where
         less : n < length (dataOf cmd) + 4
@@ -243,9 +243,9 @@ torn img s cmd n l = go (cutting img s cmd n)
 
         uses : (k : ℕ) → used (body new k) ≡ used (body img k)
         uses = by-kind used (cut-used img (r .kind) r (dataOf cmd) w a n less)
-    go (activate-cut w p k b m i u t) =
+    go (activate-cut w p b q r m i u t) =
         let e : n ≡ 0 = omega (arith, l, m) in
-        same (i ∙ ap (λ (j : ℕ). makeStoresIn j img k State (dataOf cmd)) e ∙ none-made img k State (dataOf cmd))
+        same (i ∙ ap (λ (j : ℕ). makeStoresIn j img (biometricsKind b) State (dataOf cmd)) e ∙ none-made img (biometricsKind b) State (dataOf cmd))
     go (no-cut m i x y) = same i
 
 pub room-used : Room-used

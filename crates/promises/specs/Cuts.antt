@@ -4,10 +4,10 @@ use Prim.Native.Nat.{ℕ, _+_, _*_, _/_, _%_, _≤_, _<_}
 use mathlib.Core.Path.{_≡_}
 use mathlib.Core.Bool.{true, false}
 use mathlib.Core.List.{List, [], _∷_, _++_, List·Memᴰ}
-use lib.ListN.{length, take, replicate}
+use lib.ListN.{length, take}
+use Rattle.base.specs.Choice.{ifElse}
 use Rattle.store_records.specs.Body.{count, used, recordBytes}
 use Rattle.store_kinds.specs.Rules.{isBiometrics, biometricsKind}
-use Rattle.store_kinds.specs.declared.rules.Rule.{Rule}
 use Rattle.store_cut.specs.Stores.{Store, at, run, made}
 use Rattle.store_image.specs.Image.{find, wellFormed, body, recordsOf}
 use Rattle.store_image.specs.declared.Found.the-variants.{At}
@@ -17,39 +17,36 @@ use Rattle.machine_apdu.specs.declared.Frame.{Frame}
 use Rattle.machine_session.specs.Session.{sessionFits}
 use Rattle.machine_session.specs.Verdict.{verdictNumber}
 use Rattle.machine_session.specs.declared.Session.{Session}
+use Rattle.machine_session.specs.declared.Named.the-variants.{Current}
 use Rattle.machine_dispatch.specs.Decide.{dataOf}
 use Rattle.machine_answer.specs.Outcome.{Outcome}
 use Rattle.machine.specs.Step.{verdictOn, step}
 use Rattle.machine_cut.specs.Cutting.{CutOutcome, cut}
 use Rattle.machine_session_bytes.specs.Layout.{isSession, sessionIn}
 use Rattle.malquindo.specs.Face.{CalledCut, calledCut}
-use Rattle.promises.specs.Files.{isMeantKind}
+use Rattle.promises.specs.Files.{isMeantKind, Writes-to}
 use Rattle.promises.specs.Calls.{isPair}
 use Rattle.promises.specs.Linked.{refusalIn, cutStoresIn}
 
--- the whole command, with a response buffer that is long enough [CU6]
-unfoldable pub uncut : List ℕ → Session → List ℕ → Outcome
-uncut img s cmd = step img s cmd (replicate 2050 0)
-
 -- ---- which commands have stores, and how many
 
--- [CU2] [CU3] [CU5]
-pub record Stores-there (img : List ℕ) (s : Session) (cmd : List ℕ) (c : CutOutcome) : Type 0 where
+-- beside the whole command with the response buffer buf, which is long enough [CU2] [CU3] [CU5]
+pub record Stores-there (img : List ℕ) (s : Session) (cmd buf : List ℕ) (c : CutOutcome) : Type 0 where
   -- a cut is refused as a command is whose response buffer is long enough: with 2, with 4 or not at all
   pub verdict-same : c .answer .verdict ≡ verdictOn img s 2050
   pub number : List·Memᴰ (verdictNumber (c .answer .verdict)) (0 ∷ 2 ∷ 4 ∷ [])
   -- none where the whole command is not answered 9000
-  pub none-refused : (uncut img s cmd .answer .status ≡ 0x9000 → ⊥) → c .answer .stores ≡ 0
+  pub none-refused : (step img s cmd buf .answer .status ≡ 0x9000 → ⊥) → c .answer .stores ≡ 0
   -- an append has four more than its data has bytes, ACTIVATE one, no other command any
-  pub append : (f : Frame) → shapeOf cmd ≡ Good f → isPair f 0x00 0xE2 ≡ true → uncut img s cmd .answer .status ≡ 0x9000 → c .answer .stores ≡ length (dataOf cmd) + 4
-  pub activate : (f : Frame) → shapeOf cmd ≡ Good f → isPair f 0x00 0x44 ≡ true → uncut img s cmd .answer .status ≡ 0x9000 → c .answer .stores ≡ 1
+  pub append : (f : Frame) → shapeOf cmd ≡ Good f → isPair f 0x00 0xE2 ≡ true → step img s cmd buf .answer .status ≡ 0x9000 → c .answer .stores ≡ length (dataOf cmd) + 4
+  pub activate : (f : Frame) → shapeOf cmd ≡ Good f → isPair f 0x00 0x44 ≡ true → step img s cmd buf .answer .status ≡ 0x9000 → c .answer .stores ≡ 1
   pub none-other : (f : Frame) → shapeOf cmd ≡ Good f → isPair f 0x00 0xE2 ≡ false → isPair f 0x00 0x44 ≡ false → c .answer .stores ≡ 0
   -- without stores the image stays
   pub image-kept : c .answer .stores ≡ 0 → c .image ≡ img
 
 -- [CU5] [CU6]
 abbrev pub Cut-stores : Type 0
-Cut-stores = (img : List ℕ) (s : Session) (cmd : List ℕ) (n : ℕ) → Stores-there img s cmd (cut img s cmd n)
+Cut-stores = (img : List ℕ) (s : Session) (cmd buf : List ℕ) (n : ℕ) → 2050 ≤ length buf → Stores-there img s cmd buf (cut img s cmd n)
 
 -- ---- "And if the power goes in the middle?"
 
@@ -66,7 +63,7 @@ pub record Left (img : List ℕ) (s : Session) (cmd : List ℕ) (n : ℕ) (c : C
   -- before the last store: what was there before the command
   pub before : n < c .answer .stores → SameContent img (c .image)
   -- with the last store: what the whole command leaves, every byte
-  pub after : 1 ≤ c .answer .stores → c .answer .stores ≤ n → c .image ≡ uncut img s cmd .image
+  pub after : (buf : List ℕ) → 2050 ≤ length buf → 1 ≤ c .answer .stores → c .answer .stores ≤ n → c .image ≡ step img s cmd buf .image
   -- every session that fitted still fits
   pub sessions : (t : Session) → sessionFits img t ≡ true → sessionFits (c .image) t ≡ true
 
@@ -93,28 +90,29 @@ pub record AppendCut (img : List ℕ) (s : Session) (cmd : List ℕ) (f : Frame)
 -- [CU2] [CU4]
 abbrev pub Append-in-order : Type 0
 Append-in-order =
-    (img : List ℕ) (s : Session) (cmd : List ℕ) (f : Frame) (n : ℕ)
+    (img : List ℕ) (s : Session) (cmd buf : List ℕ) (f : Frame) (n : ℕ)
     → shapeOf cmd ≡ Good f
     → isPair f 0x00 0xE2 ≡ true
-    → uncut img s cmd .answer .status ≡ 0x9000
+    → step img s cmd buf .answer .status ≡ 0x9000
     → AppendCut img s cmd f n
 
 -- an ACTIVATE that would be answered 9000 has one store, the file's state [CU3] [CU4]
 pub record ActivateCut (img : List ℕ) (s : Session) (cmd : List ℕ) (n : ℕ) : Type 0 where
-  pub kind : ℕ
+  pub number : ℕ
   pub start : ℕ
   pub room : ℕ
-  pub of-biometrics : isBiometrics kind ≡ true
-  pub stands : find img kind ≡ At start room
+  -- the current file, where it stands
+  pub of-current : Writes-to img s Current number
+  pub stands : find img (biometricsKind number) ≡ At start room
   pub stored : cut img s cmd n .image ≡ made (take n (at start 1 ∷ [])) img
 
 -- [CU3] [CU4]
 abbrev pub Activate-in-order : Type 0
 Activate-in-order =
-    (img : List ℕ) (s : Session) (cmd : List ℕ) (f : Frame) (n : ℕ)
+    (img : List ℕ) (s : Session) (cmd buf : List ℕ) (f : Frame) (n : ℕ)
     → shapeOf cmd ≡ Good f
     → isPair f 0x00 0x44 ≡ true
-    → uncut img s cmd .answer .status ≡ 0x9000
+    → step img s cmd buf .answer .status ≡ 0x9000
     → ActivateCut img s cmd n
 
 -- ---- what lies in the free room from a cut does not matter
@@ -142,7 +140,7 @@ pub record CutSeen (img ses cmd : List ℕ) (n : ℕ) (c : CalledCut) : Type 0 w
   pub refusal : isSession ses ≡ true → refusalIn (c .result) ≡ verdictNumber (cut img (sessionIn ses) cmd n .answer .verdict)
   pub stores : isSession ses ≡ true → cutStoresIn (c .result) ≡ cut img (sessionIn ses) cmd n .answer .stores
   pub image : isSession ses ≡ true → c .image ≡ cut img (sessionIn ses) cmd n .image
-  pub malformed : isSession ses ≡ false → List·Memᴰ (c .result) (2 * 4294967296 ∷ 4 * 4294967296 ∷ []) × (c .image ≡ img)
+  pub malformed : isSession ses ≡ false → (c .result ≡ ifElse (wellFormed img) 4 2 * 4294967296) × (c .image ≡ img)
 
 -- [X16]
 abbrev pub C-cuts : Type 0

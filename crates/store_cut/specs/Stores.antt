@@ -8,7 +8,7 @@ use Rattle.store_kinds.specs.Biometrics.{bioOk}
 use Rattle.store_cut.specs.declared.Writing.{Writing}
 use Rattle.store_cut.specs.declared.Writing.the-variants.{Record, State}
 
--- one store: a byte, and its place in the file's body [CU1]
+-- one store: a byte, and its place in the file's body; in promises/Cuts.antt its place in the image [CU1]
 pub record Store : Type 0 where
   pub place : ℕ
   pub byte : ℕ

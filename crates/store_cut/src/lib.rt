@@ -1,5 +1,5 @@
 // The single byte stores by which APPEND RECORD and ACTIVATE write a file's body, in order. `make_stores` makes the first k of them: a
-// command has all of them made, and a cut fewer. Nothing else writes a record or a state.
+// command has all of them made, and a cut fewer. Nothing else writes a record or a state of a card in use; a move writes a new image.
 use base::natural::saturating_sub;
 use store_kinds::biometrics;
 use store_records::body;

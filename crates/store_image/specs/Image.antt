@@ -128,6 +128,6 @@ activateIn img k = withBody img k (activate (body img k))
 unfoldable pub storesIn : List ℕ → ℕ → Writing → List ℕ → List Store
 storesIn img k w d = stores w (body img k) d
 
--- the image after the first n of them [I10] [CU4]
+-- the image after the first n of them; k is the file's kind [I10] [CU4]
 unfoldable pub makeStoresIn : ℕ → List ℕ → ℕ → Writing → List ℕ → List ℕ
 makeStoresIn n img k w d = withBody img k (makeStores n w (body img k) d)

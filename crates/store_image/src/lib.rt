@@ -150,7 +150,7 @@ pub fn well_formed(image: &[u8]) -> bool
 }
 
 // Makes the first k stores of what is written to the file of a kind, all of them where k is more; none where the file is not there or cannot
-// take it. Answers how many there are in all. A record and a state are written here and nowhere else.
+// take it. Answers how many there are in all. A record and a state of a card in use are written here and nowhere else.
 pub fn make_stores(image: &mut [u8], kind: usize, w: Writing, data: &[u8], k: usize) -> usize
     ensures { λ r. ⌜ (r ≡ length (storesIn (now (image .entry)) kind w (now («data» .entry)))) × (now (image .exit) ≡ makeStoresIn k (now (image .entry)) kind w (now («data» .entry))) ⌝ }
 {

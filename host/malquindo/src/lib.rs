@@ -34,7 +34,7 @@
 //!
 //! [`rights`] reads the rights to open with from the extensions of three certificates.
 //!
-//! [`cut`] is for testers: it leaves a card as one that was taken away amid a command.
+//! [`cut`] is for testers: it leaves a card as one that was taken away in the middle of a command.
 //!
 //! [`move_card`] writes a card anew, with other rooms. [`file`](fn@file) finds a file's body in an
 //! image, and [`certificate`] the certificate that a stamp names. An [`Index`] reads a record
@@ -235,13 +235,13 @@ pub fn command<'r>(
     })
 }
 
-/// For testers: what a card is that was taken away amid a command. The image is then as a cut
+/// For testers: what a card is that was taken away in the middle of a command. The image is then as a cut
 /// behind so many of the command's stores leaves it, and the answer is how many it has in all.
 ///
 /// APPEND RECORD of n bytes has n + 4 stores, of one byte each: the record's length, its bytes, and
 /// last the file's count. ACTIVATE has one, that of the state. All are made where `stores` is
 /// as many or more; short of that the card holds what it held before. Any other command has none,
-/// and so have these two where [`command`] would not answer 9000: the image stays then, and the
+/// and neither have these two where [`command`] would not answer 9000: the image stays then, and the
 /// answer is 0. UPDATE BINARY is among the others, though it writes.
 ///
 /// The session is only read: it is the one before the command. A refusal is
