@@ -1,5 +1,5 @@
 -- A status word behind its data. Read machine_answer's specs/Outcome.antt before. Exports `said`, `stored`, `stored-records`, `stored-object`,
--- `object-end`, `same-report`, `same-answer`, `same-file`.
+-- `object-end`, `same-report`, `same-file`.
 use Prim.Native.Nat.{ℕ, _+_, _≤_, _<_}
 use mathlib.Core.Path.{_≡_, sym, ap, ap₂, _∙_}
 use mathlib.Core.Bool.{false}
@@ -85,10 +85,6 @@ module _ (buf xs : List ℕ) (a n tag : ℕ) (p : tag < 256) (h : objectLength n
 pub same-report : (p2 : ℕ) {t r e t′ r′ e′ : ℕ} → t ≡ t′ → r ≡ r′ → e ≡ e′ → reportData p2 t r e ≡ reportData p2 t′ r′ e′
 same-report p2 {t} {r} {e} {t′} {r′} p q z =
     ap₂ (λ (x y : ℕ). reportData p2 x y e) p q ∙ ap (reportData p2 t′ r′) z
-
--- the same answer over the same bytes
-pub same-answer : (img buf : List ℕ) {a b : Answer} → a ≡ b → outcome a img buf ≡ outcome b img buf
-same-answer img buf e = ap (λ (x : Answer). outcome x img buf) e
 
 -- the session's new place, by equal numbers
 pub same-file : (s : Session) {t : Session} {i i′ : ℕ} → t ≡ placed s (OnFile i) → i ≡ i′ → t ≡ placed s (OnFile i′)

@@ -24,7 +24,13 @@ ghost use Rattle.machine_session.specs.declared.Verdict.the-variants.{Accepted}
 ghost use Rattle.machine_dispatch.specs.Loops.{Allowed};
 ghost use Rattle.machine_answer.specs.Outcome.{outcome, refused as refusedAs};
 ghost use Rattle.machine.specs.Effects.{searched, done};
-ghost use Rattle.machine.specs.Step.{stepBy, step, opening};
+ghost use Rattle.machine.specs.Step.{step, judgedBy, judged, opening};
+
+// What a command comes to: a refusal, or an action and where its data field stands in the command (place and length).
+pub enum Judgement {
+    Denied(Refusal),
+    Decided(Action, usize, usize),
+}
 
 // Opens a session with the rights of three certificates.
 pub fn open(certificates: &[u8]) -> Answer
@@ -181,18 +187,27 @@ fn apply(image: &mut [u8], s: Session, d: Action, data: &[u8], response: &mut [u
     }
 }
 
-// A command that is accepted.
-fn accepted(image: &mut [u8], s: Session, command: &[u8], response: &mut [u8]) -> Answer
-    requires { ⌜ (wellFormed (now image) ≡ true) × (2050 ≤ length (now response)) ⌝ }
-    ensures { λ a. ⌜ outcome a (now (image .exit)) (now (response .exit)) ≡ stepBy Accepted (now (image .entry)) s (now (command .entry)) (now (response .entry)) ⌝ }
+// What an accepted command comes to, and where its data field stands.
+fn decided(image: &[u8], s: Session, command: &[u8]) -> Judgement
+    ensures { λ r. ⌜ r ≡ judgedBy Accepted (now (image .entry)) s (now (command .entry)) ⌝ }
 {
     match machine_apdu::shape(command) {
-        Apdu::Bad => machine_answer::status_only(s, status::WRONG_LENGTH, response),
+        Apdu::Bad => Judgement::Decided(Action::Status(status::WRONG_LENGTH), 0, 0),
         Apdu::Good(f) => {
             let data = base::part(command, f.from, f.lc);
-            let d = machine_dispatch::by_class(image, s, f, data);
-            apply(image, s, d, data, response)
+            Judgement::Decided(machine_dispatch::by_class(image, s, f, data), f.from, f.lc)
         }
+    }
+}
+
+// Judges a command whose response buffer has n bytes, and decides what it comes to. It touches nothing.
+pub fn judged(image: &[u8], s: Session, command: &[u8], n: usize) -> Judgement
+    ensures { λ r. ⌜ r ≡ judged (now (image .entry)) s (now (command .entry)) n ⌝ }
+{
+    let fits = machine_session::session_fits(image, s);
+    match machine_session::judge(image, fits, n) {
+        Verdict::Accepted => decided(image, s, command),
+        Verdict::Refused(r) => Judgement::Denied(r),
     }
 }
 
@@ -200,9 +215,8 @@ fn accepted(image: &mut [u8], s: Session, command: &[u8], response: &mut [u8]) -
 pub fn command(image: &mut [u8], s: Session, command: &[u8], response: &mut [u8]) -> Answer
     ensures { λ a. ⌜ outcome a (now (image .exit)) (now (response .exit)) ≡ step (now (image .entry)) s (now (command .entry)) (now (response .entry)) ⌝ }
 {
-    let fits = machine_session::session_fits(image, s);
-    match machine_session::judge(image, fits, response.len()) {
-        Verdict::Accepted => accepted(image, s, command, response),
-        Verdict::Refused(r) => refused(r, s),
+    match judged(image, s, command, response.len()) {
+        Judgement::Denied(r) => refused(r, s),
+        Judgement::Decided(d, at, n) => apply(image, s, d, base::part(command, at, n), response),
     }
 }

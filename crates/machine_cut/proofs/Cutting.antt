@@ -1,10 +1,10 @@
--- From a command to the stores that it has. Read specs/Cutting.antt before. Exports `cut-to`, `cut-bad`, `cut-good`, `cut-accepted`, `cut-refused` (what
--- the code answers is the definition's, case by case), `cut-stores-small`.
+-- From a command to the stores that it has. Read specs/Cutting.antt before. Exports `cut-to`, `cut-denied`, `cut-decided` (what the code
+-- answers is the definition's, case by case), `cut-stores-small`.
 use Prim.Native.Nat.{ℕ, _<_}
 use mathlib.Core.Path.{_≡_, refl, sym, ap, ap₂, subst, _∙_}
-use mathlib.Core.Bool.{Bool}
 use mathlib.Core.List.{List}
 use lib.ListN.{length}
+use Rattle.base.specs.Bytes.{part}
 use Rattle.store_cut.specs.declared.Writing.{Writing}
 use Rattle.store_image.specs.Image.{storesIn, makeStoresIn}
 use Rattle.store_image.proofs.Laws.{stores-small}
@@ -15,11 +15,11 @@ use Rattle.machine_session.specs.declared.Refusal.{Refusal}
 use Rattle.machine_session.specs.declared.Session.{Session}
 use Rattle.machine_session.specs.declared.Verdict.{Verdict}
 use Rattle.machine_session.specs.declared.Verdict.the-variants.{Accepted, Refused}
-use Rattle.machine_apdu.specs.Shape.{shapeOf}
-use Rattle.machine_apdu.specs.declared.Apdu.the-variants.{Bad}
 use Rattle.machine_action.specs.declared.Action.{Action}
 use Rattle.machine_dispatch.specs.Decide.{decide, dataOf}
-use Rattle.machine.proofs.Accepting.{decided-refused}
+use Rattle.machine.specs.Step.{judged}
+use Rattle.machine.specs.declared.Judgement.the-variants.{Denied, Decided}
+use Rattle.machine.proofs.Accepting.{judged-told}
 use Rattle.machine_cut.specs.Cutting.{storing, cutStores, cutImage, cutOutcome, cutBy, cut}
 use Rattle.machine_cut.specs.declared.Storage.{Storage}
 use Rattle.machine_cut.specs.declared.Storage.the-variants.{To, Nothing}
@@ -34,28 +34,19 @@ module _ (n : ℕ) (img : List ℕ) where
   cut-to t k w d r last e = subst (λ (u : Storage). Cuts n u img d r last) (sym e)
 
   module _ (s : Session) (cmd : List ℕ) where
-    pub cut-bad : shapeOf cmd ≡ Bad → Cuts n (storing (decide img s cmd)) img (dataOf cmd) 0 img
-    cut-bad e = subst (λ (x : Action). Cuts n (storing x) img (dataOf cmd) 0 img) (sym (decided-refused img s cmd e)) (refl, refl)
+    pub cut-denied : (w : Refusal) → judged img s cmd 2050 ≡ Denied w → cutOutcome (record { verdict = Refused w; stores = 0 }) img ≡ cut img s cmd n
+    unfolding cut
+    cut-denied w e = rw (judged-told img s cmd 2050 e) refl
 
-    pub cut-good : (t : Storage) (x : Action) (d : List ℕ) (r : ℕ) (last : List ℕ) → t ≡ storing x → x ≡ decide img s cmd → d ≡ dataOf cmd
-        → Cuts n t img d r last → Cuts n (storing (decide img s cmd)) img (dataOf cmd) r last
-    cut-good t x d r last et ex ed h =
-        subst (λ (u : Storage). Cuts n u img (dataOf cmd) r last) (et ∙ ap storing ex) (subst (λ (l : List ℕ). Cuts n t img l r last) ed h)
-
-    module _ (fits : Bool) (v : Verdict) (ev : v ≡ verdict img fits 2050) (ef : fits ≡ sessionFits img s) where
-      judged : v ≡ verdict img (sessionFits img s) 2050
-      judged = ev ∙ ap (λ (b : Bool). verdict img b 2050) ef
-
-      pub cut-accepted : (r : ℕ) (last : List ℕ) → v ≡ Accepted → Cuts n (storing (decide img s cmd)) img (dataOf cmd) r last
-          → cutOutcome (record { verdict = Accepted; stores = r }) last ≡ cut img s cmd n
-      unfolding cut
-      cut-accepted r last e h =
-          ap₂ (λ (m : ℕ) (l : List ℕ). cutOutcome (record { verdict = Accepted; stores = m }) l) (h .0) (h .1)
-          ∙ ap (λ (x : Verdict). cutBy x img s cmd n) (sym e ∙ judged)
-
-      pub cut-refused : (w : Refusal) → v ≡ Refused w → cutOutcome (record { verdict = Refused w; stores = 0 }) img ≡ cut img s cmd n
-      unfolding cut
-      cut-refused w e = ap (λ (x : Verdict). cutBy x img s cmd n) (sym e ∙ judged)
+    pub cut-decided : {x : Action} {at l : ℕ} {t : Storage} {d : List ℕ} {r : ℕ} {last : List ℕ} → judged img s cmd 2050 ≡ Decided x at l
+        → t ≡ storing x → d ≡ part cmd at l → Cuts n t img d r last → cutOutcome (record { verdict = Accepted; stores = r }) last ≡ cut img s cmd n
+    unfolding cut
+    cut-decided {x} {at} {l} {t} {d} {r} {last} e et ed h =
+        let known = judged-told img s cmd 2050 e in
+        let c : Cuts n (storing (decide img s cmd)) img (dataOf cmd) r last =
+        subst (λ (u : Storage). Cuts n u img (dataOf cmd) r last) (et ∙ ap storing (known .1))
+        (subst (λ (z : List ℕ). Cuts n t img z r last) (ed ∙ known .2) h) in
+        rw (known .0) (ap₂ (λ (m : ℕ) (z : List ℕ). cutOutcome (record { verdict = Accepted; stores = m }) z) (c .0) (c .1))
 
 -- a command has fewer than 65,540 stores
 pub cut-stores-small : (img : List ℕ) (s : Session) (cmd : List ℕ) (n : ℕ) → cut img s cmd n .answer .stores < 65540

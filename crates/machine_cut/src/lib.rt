@@ -1,13 +1,12 @@
 // A command that is cut: what it leaves of the image where only the first of its stores are made. APPEND RECORD and ACTIVATE have stores, the
 // same that the whole command makes; no other command has any.
+use machine::Judgement;
 use machine_action::Action;
-use machine_apdu::Apdu;
 use machine_session::Session;
 use machine_session::Verdict;
 use store_cut::Writing;
 use store_kinds::rules;
 ghost use mathlib.Core.Path.{_≡_};
-ghost use Rattle.machine_dispatch.specs.Decide.{decide, dataOf};
 ghost use Rattle.machine_cut.specs.Cutting.{storing, cutStores, cutImage, cutOutcome, cut};
 
 // What an action stores: to the file of which kind, and what.
@@ -50,33 +49,18 @@ fn make(image: &mut [u8], t: Storage, data: &[u8], k: usize) -> usize
     }
 }
 
-// A command that is accepted.
-fn accepted(image: &mut [u8], s: Session, command: &[u8], k: usize) -> usize
-    ensures { λ r. ⌜ (r ≡ cutStores (storing (decide (now (image .entry)) s (now (command .entry)))) (now (image .entry)) (dataOf (now (command .entry)))) × (now (image .exit) ≡ cutImage k (storing (decide (now (image .entry)) s (now (command .entry)))) (now (image .entry)) (dataOf (now (command .entry)))) ⌝ }
-{
-    match machine_apdu::shape(command) {
-        Apdu::Bad => 0,
-        Apdu::Good(f) => {
-            let data = base::part(command, f.from, f.lc);
-            let t = storing(machine_dispatch::by_class(image, s, f, data));
-            make(image, t, data, k)
-        }
-    }
-}
-
 // One command, cut behind its first k stores. It is judged as a command whose response buffer is long enough.
 pub fn cut(image: &mut [u8], s: Session, command: &[u8], k: usize) -> CutAnswer
     ensures { λ r. ⌜ cutOutcome r (now (image .exit)) ≡ cut (now (image .entry)) s (now (command .entry)) k ⌝ }
 {
-    let fits = machine_session::session_fits(image, s);
-    match machine_session::judge(image, fits, 2050) {
-        Verdict::Accepted => CutAnswer {
-            verdict: Verdict::Accepted,
-            stores: accepted(image, s, command, k),
-        },
-        Verdict::Refused(r) => CutAnswer {
+    match machine::judged(image, s, command, 2050) {
+        Judgement::Denied(r) => CutAnswer {
             verdict: Verdict::Refused(r),
             stores: 0,
+        },
+        Judgement::Decided(d, at, n) => CutAnswer {
+            verdict: Verdict::Accepted,
+            stores: make(image, storing(d), base::part(command, at, n), k),
         },
     }
 }

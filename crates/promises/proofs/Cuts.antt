@@ -42,7 +42,7 @@ use Rattle.machine_dispatch.proofs.Allowing.{Pair, From, FromShape, decide-from
 use Rattle.machine_session.proofs.Steps.{BiometricsResolved}
 use Rattle.machine_answer.specs.Outcome.{Outcome, says}
 use Rattle.machine.specs.Effects.{done}
-use Rattle.machine.specs.Step.{stepBy, step}
+use Rattle.machine.specs.Step.{verdictOn, stepBy, step}
 use Rattle.machine.proofs.Accepting.{decided-refused}
 use Rattle.machine_cut.specs.Cutting.{storing, cutStores, cutImage, CutOutcome, cutOutcome, cutBy, cut}
 use Rattle.machine_cut.specs.declared.Storage.{Storage}
@@ -56,15 +56,12 @@ use Rattle.promises.proofs.Fitting.{call-fits}
 
 -- ---- the whole command has the verdict of the cut
 
-abbrev judged : List ℕ → Session → Verdict
-judged img s = verdict img (sessionFits img s) 2050
-
 module _ (img : List ℕ) (s : Session) (cmd buf : List ℕ) (enough : 2050 ≤ length buf) where
-  whole-by : step img s cmd buf ≡ stepBy (judged img s) img s cmd buf
+  whole-by : step img s cmd buf ≡ stepBy (verdictOn img s 2050) img s cmd buf
   unfolding step verdict
   whole-by = simp (le-ltb (length buf) 2050 enough)
 
-  module _ (e : judged img s ≡ Accepted) where
+  module _ (e : verdictOn img s 2050 ≡ Accepted) where
     well : wellFormed img ≡ true
     well = accepted-facts img s 2050 e .0
 
@@ -119,9 +116,9 @@ module _ (img : List ℕ) (s : Session) (cmd buf : List ℕ) (f : Frame) (e : sh
 -- ---- which commands have stores
 
 -- a verdict on a cut: 2 or 4 or none
-judged-number : (img : List ℕ) (fits : Bool) → List·Memᴰ (verdictNumber (verdict img fits 2050)) (0 ∷ 2 ∷ 4 ∷ [])
+verdict-listed : (img : List ℕ) (fits : Bool) → List·Memᴰ (verdictNumber (verdict img fits 2050)) (0 ∷ 2 ∷ 4 ∷ [])
 unfolding verdict verdictNumber refusalNumber
-judged-number img fits =
+verdict-listed img fits =
     let P : Verdict → Type 0 = λ x. List·Memᴰ (verdictNumber x) (0 ∷ 2 ∷ 4 ∷ []) in
     ifElse-ind P (wellFormed img)
     (λ _. ifElse-ind P fits (λ _. List·Memᴰ·head refl) (λ _. List·Memᴰ·tail (List·Memᴰ·tail (List·Memᴰ·head refl))))
@@ -147,36 +144,36 @@ module _ (img : List ℕ) (s : Session) (cmd : List ℕ) (n : ℕ) (buf : List �
   abbrev pub o : Outcome
   o = step img s cmd buf
 
-  refused-or : {P : Type 0} → ((r : Refusal) → judged img s ≡ Refused r → P) → (judged img s ≡ Accepted → P) → P
-  refused-or {P} f g = go (judged img s) refl
+  refused-or : {P : Type 0} → ((r : Refusal) → verdictOn img s 2050 ≡ Refused r → P) → (verdictOn img s 2050 ≡ Accepted → P) → P
+  refused-or {P} f g = go (verdictOn img s 2050) refl
     where
-      go : (v : Verdict) → judged img s ≡ v → P
+      go : (v : Verdict) → verdictOn img s 2050 ≡ v → P
       go Accepted e = g e
       go (Refused r) e = f r e
 
-  cut-verdict : c .answer .verdict ≡ judged img s
+  cut-verdict : c .answer .verdict ≡ verdictOn img s 2050
   unfolding cut
-  cut-verdict = go (judged img s)
+  cut-verdict = go (verdictOn img s 2050)
     where
       go : (v : Verdict) → cutBy v img s cmd n .answer .verdict ≡ v
       go Accepted = refl
       go (Refused r) = refl
 
-  refused-stores : (r : Refusal) → judged img s ≡ Refused r → c .answer .stores ≡ 0
+  refused-stores : (r : Refusal) → verdictOn img s 2050 ≡ Refused r → c .answer .stores ≡ 0
   unfolding cut
   refused-stores r e = ap (λ (v : Verdict). cutBy v img s cmd n .answer .stores) e
 
-  refused-status : (r : Refusal) → judged img s ≡ Refused r → (o .answer .status ≡ 0x9000 → ⊥)
+  refused-status : (r : Refusal) → verdictOn img s 2050 ≡ Refused r → (o .answer .status ≡ 0x9000 → ⊥)
   unfolding stepBy
   refused-status r e z = absurd (omega (arith, z, ap (λ (x : Outcome). x .answer .status) (whole-by img s cmd buf enough ∙ ap (λ (v : Verdict). stepBy v img s cmd buf) e)))
 
-  stores-at : judged img s ≡ Accepted → c .answer .stores ≡ cutStores (storing (decide img s cmd)) img (dataOf cmd)
+  stores-at : verdictOn img s 2050 ≡ Accepted → c .answer .stores ≡ cutStores (storing (decide img s cmd)) img (dataOf cmd)
   stores-at e = ap (λ (x : CutOutcome). x .answer .stores) (cut-at img s cmd buf enough e n)
 
-  image-at : judged img s ≡ Accepted → c .image ≡ cutImage n (storing (decide img s cmd)) img (dataOf cmd)
+  image-at : verdictOn img s 2050 ≡ Accepted → c .image ≡ cutImage n (storing (decide img s cmd)) img (dataOf cmd)
   image-at e = ap (λ (x : CutOutcome). x .image) (cut-at img s cmd buf enough e n)
 
-  status-at : judged img s ≡ Accepted → o .answer .status ≡ done (decide img s cmd) img s (dataOf cmd) buf .answer .status
+  status-at : verdictOn img s 2050 ≡ Accepted → o .answer .status ≡ done (decide img s cmd) img s (dataOf cmd) buf .answer .status
   status-at e = ap (λ (x : Outcome). x .answer .status) (whole-at img s cmd buf enough e)
 
   same-frame : (f g : Frame) → shapeOf cmd ≡ Good f → shapeOf cmd ≡ Good g → (i : ℕ) → isPair g 0x00 i ≡ true → isPair f 0x00 i ≡ true
@@ -208,19 +205,19 @@ module _ (img : List ℕ) (s : Session) (cmd : List ℕ) (n : ℕ) (buf : List �
   pub cutting : Cutting
   cutting = refused-or (λ r e. no-cut (refused-stores r e) (refused-image r e) (λ f z p w. refused-status r e w) (λ f z p w. refused-status r e w)) (λ e. by-shape e (shapeOf cmd) refl)
     where
-      refused-image : (r : Refusal) → judged img s ≡ Refused r → c .image ≡ img
+      refused-image : (r : Refusal) → verdictOn img s 2050 ≡ Refused r → c .image ≡ img
       refused-image r e = unfold cut in ap (λ (v : Verdict). cutBy v img s cmd n .image) e
 
-      decided-stores : (e : judged img s ≡ Accepted) (x : Action) → decide img s cmd ≡ x → c .answer .stores ≡ cutStores (storing x) img d
+      decided-stores : (e : verdictOn img s 2050 ≡ Accepted) (x : Action) → decide img s cmd ≡ x → c .answer .stores ≡ cutStores (storing x) img d
       decided-stores e x q = stores-at e ∙ ap (λ (y : Action). cutStores (storing y) img d) q
 
-      decided-image : (e : judged img s ≡ Accepted) (x : Action) → decide img s cmd ≡ x → c .image ≡ cutImage n (storing x) img d
+      decided-image : (e : verdictOn img s 2050 ≡ Accepted) (x : Action) → decide img s cmd ≡ x → c .image ≡ cutImage n (storing x) img d
       decided-image e x q = image-at e ∙ ap (λ (y : Action). cutImage n (storing y) img d) q
 
-      decided-outcome : (e : judged img s ≡ Accepted) (x : Action) → decide img s cmd ≡ x → o ≡ done x img s d buf
+      decided-outcome : (e : verdictOn img s 2050 ≡ Accepted) (x : Action) → decide img s cmd ≡ x → o ≡ done x img s d buf
       decided-outcome e x q = whole-at img s cmd buf enough e ∙ ap (λ (y : Action). done y img s d buf) q
 
-      by-way : judged img s ≡ Accepted → (f : Frame) → shapeOf cmd ≡ Good f → Way img s f d buf (decide img s cmd) → Cutting
+      by-way : verdictOn img s 2050 ≡ Accepted → (f : Frame) → shapeOf cmd ≡ Good f → Way img s f d buf (decide img s cmd) → Cutting
       by-way e f z (appends r q h) =
           let w = well img s cmd buf enough e in
           let a = accepts img s cmd [] w d r (h .2) in
@@ -237,7 +234,7 @@ module _ (img : List ℕ) (s : Session) (cmd : List ℕ) (n : ℕ) (buf : List �
           no-cut (stores-at e ∙ ap (λ (y : Storage). cutStores y img d) t) (image-at e ∙ ap (λ (y : Storage). cutImage n y img d) t)
           (λ g y p w. m (same-frame f g z y 0xE2 p) (sym (status-at e) ∙ w)) (λ g y p w. k (same-frame f g z y 0x44 p) (sym (status-at e) ∙ w))
 
-      by-shape : judged img s ≡ Accepted → (a : Apdu) → shapeOf cmd ≡ a → Cutting
+      by-shape : verdictOn img s 2050 ≡ Accepted → (a : Apdu) → shapeOf cmd ≡ a → Cutting
       by-shape e Bad z =
           let q = decided-refused img s cmd z in
           no-cut (decided-stores e (Status 0x6700) q) (decided-image e (Status 0x6700) q) (λ f y. absurd (bad-good f (sym z ∙ y))) (λ f y. absurd (bad-good f (sym z ∙ y)))
@@ -257,7 +254,7 @@ module _ (img : List ℕ) (s : Session) (cmd : List ℕ) (n : ℕ) (buf : List �
   stores-there =
       record {
         verdict-same = cut-verdict;
-        number = subst (λ (v : Verdict). List·Memᴰ (verdictNumber v) (0 ∷ 2 ∷ 4 ∷ [])) (sym cut-verdict) (judged-number img (sessionFits img s));
+        number = subst (λ (v : Verdict). List·Memᴰ (verdictNumber v) (0 ∷ 2 ∷ 4 ∷ [])) (sym cut-verdict) (verdict-listed img (sessionFits img s));
         none-refused = refused cutting;
         append = appended cutting;
         activate = activated cutting;
