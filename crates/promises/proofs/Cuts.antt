@@ -1,26 +1,21 @@
 -- What a cut leaves. Read ../specs/Cuts.antt before. Exports `cut-stores`, `cut-leaves`; `Cutting` and `cutting` (what a cut is: of an append, of an activation, or of a
 -- command without stores), `append-or-activate`, `p2-of`, `long`.
-use Prim.Native.Nat.{ℕ, zero, suc, _+_, _/_, _%_, _≤_, _<_}
-use mathlib.Core.Path.{_≡_, refl, sym, ap, ap₂, subst, _∙_}
+use Prim.Native.Nat.{ℕ, _+_, _/_, _≤_, _<_}
+use mathlib.Core.Path.{_≡_, refl, sym, ap, subst, _∙_}
 use mathlib.Core.Bool.{Bool, true, false}
-use mathlib.Core.List.{List, [], _∷_, _++_, append-nil, append-assoc, List·Memᴰ, List·Memᴰ·head, List·Memᴰ·tail}
+use mathlib.Core.List.{List, [], _∷_, List·Memᴰ, List·Memᴰ·head, List·Memᴰ·tail}
 use native.Mathlib.Omega.{arith}
-use native.Mathlib.Nat.{add-suc}
-use lib.ListN.{length, take, drop, set, replicate, length-replicate, length-set, length-take, length-append}
-use lib.Seq.{set-append-left, length-take-le, take-nil}
-use lib.Dec.{eqb, leb}
+use lib.ListN.{length, replicate, length-replicate}
+use lib.Dec.{eqb}
 use borrow.Author.Tests.{eqb-true, eqb-false, ltb-true, le-ltb}
-use Rattle.base.specs.Bytes.{part, splice}
 use Rattle.base.proofs.Cases.{by-cases, ifElse-ind, false-true, allOf-accepted}
-use Rattle.store_records.specs.Body.{count, used, recordBytes}
 use Rattle.store_kinds.specs.Rules.{ruleOf, isBiometrics, biometricsKind}
 use Rattle.store_kinds.specs.declared.rules.Key.the-variants.{Kind}
 use Rattle.store_kinds.specs.declared.rules.Rule.{Rule}
 use Rattle.store_kinds.specs.declared.rules.Ruled.the-variants.{Is, Nothing}
-use Rattle.store_cut.specs.Stores.{Store, at, run, made}
 use Rattle.store_cut.specs.declared.Writing.the-variants.{Record, State}
-use Rattle.store_image.specs.Image.{find, has, wellFormed, body, recordsOf, withBody, appendTo, activateIn, storesIn, makeStoresIn}
-use Rattle.store_image.proofs.Laws.{Accepts, Changed, biometrics-unruled, append-all, activate-all, none-made, append-stores, activate-stores, stores-find, cut-changes, cut-list, cut-used, records-kept}
+use Rattle.store_image.specs.Image.{find, has, wellFormed, body, recordsOf, activateIn, makeStoresIn}
+use Rattle.store_image.proofs.Laws.{Accepts, biometrics-unruled, append-all, activate-all, none-made, append-stores, activate-stores, stores-find, cut-changes, cut-list, records-kept}
 use Rattle.machine_apdu.specs.Shape.{shapeOf}
 use Rattle.machine_apdu.specs.declared.Apdu.{Apdu}
 use Rattle.machine_apdu.specs.declared.Apdu.the-variants.{Bad, Good}
@@ -44,11 +39,11 @@ use Rattle.machine_answer.specs.Outcome.{Outcome, says}
 use Rattle.machine.specs.Effects.{done}
 use Rattle.machine.specs.Step.{verdictOn, stepBy, step}
 use Rattle.machine.proofs.Accepting.{decided-refused}
-use Rattle.machine_cut.specs.Cutting.{storing, cutStores, cutImage, CutOutcome, cutOutcome, cutBy, cut}
+use Rattle.machine_cut.specs.Cutting.{storing, cutStores, cutImage, CutOutcome, cutBy, cut}
 use Rattle.machine_cut.specs.declared.Storage.{Storage}
-use Rattle.machine_cut.specs.declared.Storage.the-variants.{To, Nothing as StoresNothing}
+use Rattle.machine_cut.specs.declared.Storage.the-variants.{Nothing as StoresNothing}
 use Rattle.promises.specs.Calls.{Cut, afterCall, isPair}
-use Rattle.promises.specs.Cuts.{Stores-there, Cut-stores, SameContent, Left, Cut-leaves}
+use Rattle.promises.specs.Cuts.{Stores-there, Cut-stores, SameContent, Cut-leaves}
 use Rattle.promises.proofs.Answering.{accepted-facts}
 use Rattle.promises.proofs.Deciding.{pair-facts, data-is}
 use Rattle.promises.proofs.Growing.{accepts, call-grown}

@@ -2,14 +2,14 @@
 -- Exports `append-in-order`, `activate-in-order`.
 use Prim.Native.Nat.{ℕ, zero, suc, _+_, _/_, _%_, _≤_, _<_}
 use mathlib.Core.Path.{_≡_, refl, sym, ap, ap₂, subst, _∙_}
-use mathlib.Core.Bool.{true, false}
+use mathlib.Core.Bool.{true}
 use mathlib.Core.List.{List, [], _∷_, _++_}
 use native.Mathlib.Omega.{arith}
 use native.Mathlib.Nat.{add-zero, add-suc}
 use lib.ListN.{length, take, drop, set, length-set}
 use lib.Seq.{set-append-left, length-take-le}
 use borrow.Author.Tests.{eq-eqb}
-use Rattle.base.specs.Bytes.{part, splice}
+use Rattle.base.specs.Bytes.{splice}
 use Rattle.base.proofs.Cases.{false-true}
 use Rattle.base.proofs.Parts.{length-part, splice-same}
 use Rattle.store_records.specs.Body.{count, place, used, appendable, recordBytes}
@@ -17,14 +17,13 @@ use Rattle.store_records.proofs.Bodies.{place-low}
 use Rattle.store_records.proofs.Appending.{appendable-facts, length-recordBytes}
 use Rattle.store_kinds.specs.Rules.{biometricsKind}
 use Rattle.store_kinds.specs.Biometrics.{bioOk}
-use Rattle.store_kinds.specs.declared.rules.Rule.{Rule}
 use Rattle.store_cut.specs.Stores.{Store, at, run, recordStores, stores, made, makeStores}
 use Rattle.store_cut.specs.declared.Writing.{Writing}
 use Rattle.store_cut.specs.declared.Writing.the-variants.{Record, State}
-use Rattle.store_image.specs.Image.{find, isAt, has, wellFormed, body, withBodyBy, withBody, makeStoresIn}
+use Rattle.store_image.specs.Image.{find, isAt, has, body, withBodyBy, withBody, makeStoresIn}
 use Rattle.store_image.specs.declared.Found.{Found}
 use Rattle.store_image.specs.declared.Found.the-variants.{At, Missing}
-use Rattle.store_image.proofs.Laws.{Accepts, append-accepted, found-inside, found-body, biometrics-file, biometrics-facts}
+use Rattle.store_image.proofs.Laws.{append-accepted, found-inside, found-body, biometrics-file, biometrics-facts}
 use Rattle.store_files.specs.declared.File.the-variants.{RecordFile}
 use Rattle.machine_apdu.specs.Shape.{shapeOf}
 use Rattle.machine_apdu.specs.declared.Apdu.{Apdu}

@@ -1,11 +1,11 @@
 -- An append behind a cut: what lies in the free room does not matter (`room-used`). Read ../specs/Cuts.antt before.
 use Prim.Native.Nat.{ℕ, _+_, _-_, _/_, _%_, _<_}
 use mathlib.Core.Path.{_≡_, refl, sym, ap, ap₂, subst, _∙_}
-use mathlib.Core.Bool.{Bool, true, false}
+use mathlib.Core.Bool.{Bool, true}
 use mathlib.Core.List.{List, [], _∷_, _++_}
 use native.Mathlib.Omega.{arith}
 use lib.ListN.{length, replicate}
-use lib.Dec.{eqb, leb, ltb}
+use lib.Dec.{eqb, leb}
 use borrow.Author.Tests.{eqb-true, eqb-false}
 use Rattle.base.specs.Choice.{ifElse, allOf}
 use Rattle.base.proofs.Cases.{by-cases}
@@ -24,7 +24,6 @@ use Rattle.store_image.proofs.Laws.{found-inside, found-body, has-missing, body
 use Rattle.store_files.specs.Files.{ruled, biometricsById, byId, byShort}
 use Rattle.store_files.specs.declared.Lookup.{Lookup}
 use Rattle.store_files.specs.declared.Lookup.the-variants.{Known, NoFile}
-use Rattle.store_files.specs.declared.File.{File}
 use Rattle.store_files.specs.declared.File.the-variants.{RecordFile, TransparentFile}
 use Rattle.machine_apdu.specs.Shape.{shapeOf}
 use Rattle.machine_apdu.specs.declared.Apdu.the-variants.{Good}

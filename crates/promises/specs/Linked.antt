@@ -24,7 +24,7 @@ use Rattle.machine_apdu.specs.declared.Frame.{Frame}
 use Rattle.machine_answer.specs.Outcome.{Outcome, outcome}
 use Rattle.machine.specs.Step.{step}
 use Rattle.machine_session_bytes.specs.Layout.{isSession, sessionIn}
-use Rattle.malquindo.specs.Face.{openResult, openSession, Called, called, CalledCut, calledCut, moveResult}
+use Rattle.malquindo.specs.Face.{openResult, openSession, Called, called, calledCut, moveResult}
 use Rattle.store_move.specs.Moving.{moveCard, moveCardInto}
 use Rattle.promises.specs.Calls.{isPair, addedBy, addedByCut}
 use Rattle.promises.specs.Promises.{Kept, Answered, Reads, Searching, Names, MovedCard}

@@ -1,13 +1,14 @@
 -- What a cut leaves of a body: behind every store but the last the records of before, in a body that is well formed; behind the last one the body
--- after the whole command. Read before: specs/Stores.antt, Making. Exports: `all-made` and `append-made`, `activate-made` (all stores are the command),
--- `cut-…` (what stays behind a cut of an append), `none-made` (a cut of an activation).
+-- after the whole command. Read before: specs/Stores.antt, Making. Exports: `append-made`, `activate-made` (all stores are the command), `cut-…` (what
+-- stays behind a cut of an append), `none-made` (no store is made), `stores-empty` (a body that is not there), `length-…-stores`, `…-stores-few`,
+-- `stores-small` (how many there are).
 use Prim.Native.Nat.{ℕ, zero, suc, _+_, _-_, _/_, _%_, _≤_, _<_}
-use mathlib.Core.Path.{_≡_, refl, sym, ap, ap₂, subst, _∙_}
-use mathlib.Core.Bool.{Bool, true, false}
+use mathlib.Core.Path.{_≡_, refl, sym, ap, ap₂, _∙_}
+use mathlib.Core.Bool.{true}
 use mathlib.Core.List.{List, [], _∷_, _++_}
 use native.Mathlib.Omega.{arith}
 use lib.ListN.{length, getD, take, set}
-use lib.Seq.{sets, length-sets, getD-set-other, getD-set-same, take-all, take-nil}
+use lib.Seq.{sets, length-sets, getD-set-other, getD-set-same, take-all}
 use lib.Dec.{eqb}
 use borrow.Author.Tests.{eqb-true, eqb-false}
 use Rattle.base.proofs.Cases.{by-cases, ifElse-ind}
@@ -60,7 +61,7 @@ module _ (xs ys : List ℕ) (len : length ys ≡ length xs) (held : used xs ≤ 
 
 -- ---- all stores are the command
 
-pub all-made : (k : ℕ) (w : Writing) (xs d : List ℕ) → length (stores w xs d) ≤ k → makeStores k w xs d ≡ made (stores w xs d) xs
+all-made : (k : ℕ) (w : Writing) (xs d : List ℕ) → length (stores w xs d) ≤ k → makeStores k w xs d ≡ made (stores w xs d) xs
 unfolding makeStores
 all-made k w xs d h = ap (λ (ss : List Store). made ss xs) (take-all k (stores w xs d) h)
 
@@ -152,9 +153,6 @@ module _ (xs d : List ℕ) (t : appendable xs (length d) ≡ true) (few : count 
   abbrev len : length cut ≡ length xs
   len = makeStores-length k Record xs d
 
-  pub cut-count : count cut ≡ count xs
-  cut-count = same-count xs cut len held cut-agree
-
   pub cut-used : used cut ≡ used xs
   cut-used = same-used xs cut len held cut-agree
 
@@ -171,7 +169,7 @@ unfolding stores
 stores-empty Record d = simp (appendable-empty (length d))
 stores-empty State d = simp (bioOk-short [] (omega arith))
 
--- ---- a cut of an activation has no store made
+-- ---- no store made
 
 pub none-made : (w : Writing) (xs d : List ℕ) → makeStores 0 w xs d ≡ xs
 unfolding makeStores made

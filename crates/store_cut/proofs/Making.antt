@@ -1,6 +1,7 @@
--- Stores made one after the other: a run of them, and a list behind a list. Read before: specs/Stores.antt. Exports: `made-…` (what stores leave),
--- `make-one`, `make-none`, `make-run` and `make-record` (the code's stores are those of the definition), `…-accepted` and `…-refused` (how many stores there are, and what the
--- first k leave, where the body can take what is written and where not).
+-- Stores made one after the other: a run of them, and a list behind a list. Read before: specs/Stores.antt. Exports: `makeStores-length`,
+-- `made-behind`, `made-run`, `length-run` (what stores leave); `make-one`, `make-none`, `make-run` and `make-record` (the code's stores are those of
+-- the definition); `length-recordStores`, `Makes`, `makes-as`, `…-accepted` and `…-refused` (how many stores there are, and what the first k
+-- leave, where the body can take what is written and where not).
 use Prim.Native.Nat.{ℕ, zero, suc, _+_, _-_, _/_, _%_, _≤_}
 use mathlib.Core.Path.{_≡_, refl, sym, ap, ap₂, subst, _∙_}
 use mathlib.Core.Bool.{true, false}
@@ -21,7 +22,7 @@ use Rattle.store_cut.specs.declared.Writing.the-variants.{Record, State}
 
 -- ---- what stores leave
 
-pub made-length : (ss : List Store) (xs : List ℕ) → length (made ss xs) ≡ length xs
+made-length : (ss : List Store) (xs : List ℕ) → length (made ss xs) ≡ length xs
 unfolding made
 made-length [] xs = refl
 made-length (s ∷ ss) xs = made-length ss (set xs (s .place) (s .byte)) ∙ length-set xs (s .place) (s .byte)
