@@ -46,22 +46,30 @@ extern "C" {
 #endif
 
 #define MALQUINDO_RIGHTS_LEN 60     /* the rights of a chain: three certificates of 20 bytes */
-#define MALQUINDO_SESSION_LEN 25    /* a session; malquindo_session_len() says the same */
+#define MALQUINDO_SESSION_LEN 1054  /* a session; malquindo_session_len() says the same */
 #define MALQUINDO_RESPONSE_LEN 2050 /* the shortest response buffer: 2,048 bytes of data, SW1, SW2 */
 #define MALQUINDO_IMAGE_LEN 262144  /* the longest card image */
+#define MALQUINDO_CHAIN_LEN 1024    /* the most bytes of data that a command has, whole or in links */
 #define MALQUINDO_RECORDS 254       /* the most records of a file */
 #define MALQUINDO_STAMP_LEN 391     /* the longest stamp */
 #define MALQUINDO_STAMP_PLACES 26   /* the places of a stamp's fields: two numbers for each of 13 */
 
-/* How many bytes a session has: 25.
+/* How many bytes a session has: 1,054.
  *
- *   0 to 19  rights: flags, travel, visa, 17 bytes of biometrics
- *   20       the selected application: 0 master file, 1 travel, 2 visa, 3 biometrics
- *   21       the current place: 0 none, 1 a file, 2 a file and a record
- *   22, 23   the id of the current file, little-endian; 0 where there is none
- *   24       the number of the current record; 0 where there is none
+ *   0 to 19     rights: flags, travel, visa, 17 bytes of biometrics
+ *   20          the selected application: 0 master file, 1 travel, 2 visa, 3 biometrics
+ *   21          the current place: 0 none, 1 a file, 2 a file and a record
+ *   22, 23      the id of the current file, little-endian; 0 where there is none
+ *   24          the number of the current record; 0 where there is none
+ *   25, 26      how many bytes the open chain has so far, little-endian; 0 where no chain is open
+ *   27, 28, 29  its INS, P1 and P2; 0 where no chain is open
+ *   30 to 1053  its bytes
  *
- * A session buffer may be longer. Bytes behind the first 25 are neither read nor written. */
+ * What a session does not use is zero, also behind the bytes of its chain. Bytes that are not so are no session, and neither are
+ * those with a chain that no links could have left: of more than 1,024 bytes, of an INS that no command has, or of a P1 and P2
+ * with which the INS gets 0x6A86 as a link (malquindo_command tells of links).
+ *
+ * A session buffer may be longer. Bytes behind the first 1,054 are neither read nor written. */
 size_t malquindo_session_len(void);
 
 /* Reads the rights of three certificates from their extensions: the MALQUINDO_RIGHTS_LEN bytes that malquindo_open takes.
@@ -90,8 +98,9 @@ uint64_t malquindo_rights(const uint8_t *first, size_t first_len, const uint8_t 
 
 /* Opens a session with the rights of three certificates of 20 bytes each.
  *
- * Writes the session into the first 25 bytes of the session buffer, where it has as many. It does so on refusal 3 too: that
- * session is the one that 60 zero bytes open, which has no rights. A shorter buffer stays as it came.
+ * Writes the session into the first 1,054 bytes of the session buffer, where it has as many. It does so on refusal 3 too: that
+ * session is the one that 60 zero bytes open, which has no rights. No chain is open in a new session: one that was is dropped.
+ * A shorter buffer stays as it came.
  *
  * Refusals, tested in this order: 3, 4. The lower 32 bits of the result are always 0: an opening has no status word. */
 uint64_t malquindo_open(const uint8_t *rights, size_t rights_len, uint8_t *session, size_t session_len);
@@ -101,8 +110,21 @@ uint64_t malquindo_open(const uint8_t *rights, size_t rights_len, uint8_t *sessi
  * The lower 32 bits of the result are length * 2^16 + status. The status is 256 * SW1 + SW2. The length says how many bytes
  * of the response are the answer: the data, then SW1 and SW2. Bytes behind the answer stay as they came.
  *
- * Image and session change only where the status is 0x9000. With any other status, and on a refusal, they stay as they came.
- * The command is only read.
+ * The image changes only where the status is 0x9000. With any other status, and on a refusal, it stays as it came. The session
+ * is stored where the status is 0x9000, and where another status drops an open chain: then only the chain's bytes of the
+ * session change, and become zero. Otherwise it stays as it came, on a refusal with its chain. The command is only read.
+ *
+ * Links. The data of a command may come in several links, such as a long certificate from a reader that cannot send long
+ * commands. Every link but the last has b5 of CLA set: 10 stands for 00, and 90 for 80. It has Lc and data and no Le, and is
+ * answered 0x9000 without data. It changes nothing but the chain of the session, which now has these bytes behind the earlier
+ * ones: no file is looked for, and no right is asked for. The last link has the same INS, P1 and P2, and b5 is not set. The
+ * data of all links, joined, is then the data of one command, with the last link's Le; the last link itself may lack data. The
+ * command is answered as if it had come whole, and the chain has ended.
+ *
+ * With an open chain, a command whose INS, P1 or P2 is not the chain's gets 0x6883: the last link was expected. 0x6700, for
+ * bytes that are no command, 0x6E00 and 0x6D00 come before it. A link but the last gets 0x6A86 for its P1 and P2 as a whole
+ * command does, and then 0x6700 where it lacks data or has an Le. More than MALQUINDO_CHAIN_LEN bytes in all get 0x6700, at
+ * any link. Every status but 0x9000 drops the chain: begin anew with the first link.
  *
  * A biometrics file has up to 131,072 bytes. READ BINARY with INS B0 has an offset of 15 bits, up to 32,767. INS B1 reaches
  * all of the file. Its P1-P2 are the file's id, or 0000 for the current file. It has Lc and Le; an Le of 1 or 2 gets
@@ -124,10 +146,12 @@ uint64_t malquindo_command(uint8_t *image, size_t image_len, uint8_t *session, s
  *
  * Where the command is one of these two and malquindo_command would answer it with 0x9000, the first `stores` of its stores
  * are made. A number beyond the last one is the whole command. Any other command changes nothing here, and neither do these
- * two where they would get another status. UPDATE BINARY is among the others, though it writes the image.
+ * two where they would get another status. UPDATE BINARY is among the others, though it writes the image. Of an append in
+ * links the last link has the stores of all the data, joined, and a link before it has none.
  *
  * The lower 32 bits of the result are how many stores the whole command has, 0 where it changes nothing here. Session and
- * command are only read, and may overlap each other. The session stays as before the command; it still fits the image.
+ * command are only read, and may overlap each other. The session stays as before the command, with its chain; it still fits
+ * the image.
  *
  * Refusals, tested in this order: 2, 4. The image then stays as it came. */
 uint64_t malquindo_cut(uint8_t *image, size_t image_len, const uint8_t *session, size_t session_len,

@@ -1,6 +1,6 @@
 /* Selects the travel application of a card, appends a record and reads it back; then moves the card to rooms of 100 bytes
- * and reads the record there. Appends a certificate there too, and asks for certificates by number, of that card and of a
- * desk that has one more. Then keeps an index while a second record is appended, and reads that record by its place. Then
+ * and reads the record there. Appends a certificate there too, in two links, and asks for certificates by number, of that card
+ * and of a desk that has one more. Then keeps an index while a second record is appended, and reads that record by its place. Then
  * reads a stamp, and says why another record is none. Last reads rights from the extensions of three certificates and opens
  * with them, and shows what is opened after a refusal. */
 #include <stdio.h>
@@ -28,6 +28,14 @@ static int run(uint8_t *card, size_t card_len, const uint8_t *command, size_t co
     uint64_t result = malquindo_command(card, card_len, session, sizeof session,
                                         command, command_len, response, sizeof response);
     print(response, malquindo_length(result));
+    return malquindo_status(result) != 0x9000;
+}
+
+/* Sends a link but the last: a part of a command's data. It is answered without data, and the session keeps the part. */
+static int link_of(uint8_t *card, size_t card_len, const uint8_t *command, size_t command_len)
+{
+    uint64_t result = malquindo_command(card, card_len, session, sizeof session,
+                                        command, command_len, response, sizeof response);
     return malquindo_status(result) != 0x9000;
 }
 
@@ -183,7 +191,8 @@ int main(void)
     static const uint8_t select[] = {0x00, 0xA4, 0x04, 0x0C, 0x07, 0xA0, 0x00, 0x00, 0x02, 0x47, 0x20, 0x01};
     static const uint8_t append[] = {0x00, 0xE2, 0x00, 0x08, 0x06, 0x5F, 0x44, 0x03, 0x55, 0x53, 0x41};
     static const uint8_t read[] = {0x00, 0xB2, 0x01, 0x05, 0x00, 0x00, 0x00};
-    static const uint8_t append_certificate[] = {0x00, 0xE2, 0x00, 0xD0, 0x03, 0x7F, 0x21, 0xC1}; /* short id 1A */
+    static const uint8_t first_link[] = {0x10, 0xE2, 0x00, 0xD0, 0x02, 0x7F, 0x21}; /* short id 1A; CLA 10: more will come */
+    static const uint8_t last_link[] = {0x00, 0xE2, 0x00, 0xD0, 0x01, 0xC1};
     uint8_t rights[MALQUINDO_RIGHTS_LEN];
     for (size_t i = 0; i < sizeof rights; i++)
         rights[i] = 0xFF;
@@ -192,6 +201,7 @@ int main(void)
         return 1;
     return run(image, sizeof image, select, sizeof select) || run(image, sizeof image, append, sizeof append)
         || run(image, sizeof image, read, sizeof read) || move_card() || run(larger, sizeof larger, read, sizeof read)
-        || run(larger, sizeof larger, append_certificate, sizeof append_certificate)
+        || link_of(larger, sizeof larger, first_link, sizeof first_link)
+        || run(larger, sizeof larger, last_link, sizeof last_link)
         || certificate(1) || certificate(2) || certificate(3) || indexed() || stamps() || chains();
 }

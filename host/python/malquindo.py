@@ -90,6 +90,28 @@ A stamp, which is a travel record by Table 11 of ICAO's LDS2 report. A record th
     ...
     malquindo.StampFault: offset 41, LENGTH: a length goes too far, is not the shortest form or is not allowed
 
+A command with much data for a reader that cannot send it whole: `chained` splits it into links. Each link but the last is answered 9000 without data,
+and the session keeps what came so far. The answer to the last one is the command's. Any other status drops the chain:
+
+    >>> image = malquindo.move_card(b'', [(0x0101, 40), (0x0102, 40), (0x011A, 1000)])
+    >>> session = malquindo.open(b'\\xFF' * malquindo.RIGHTS_LEN)
+    >>> print(send('00A4040C07A0000002472001'))
+    9000
+    >>> links = malquindo.chained(bytes.fromhex('00E200D0'), b'\\xC5' * 900, None, 255)     # APPEND RECORD to the travel certificates
+    >>> [len(link) for link in links]
+    [260, 260, 260, 140]
+    >>> print(*(malquindo.command(image, session, link) for link in links[:2]))
+    9000 9000
+    >>> chain = malquindo.chain(session)
+    >>> chain.header.hex(), len(chain.data)
+    ('e200d0', 510)
+    >>> print(*(malquindo.command(image, session, link) for link in links[2:]))
+    9000 9000
+    >>> malquindo.chain(session) is None
+    True
+    >>> print(send('10E200080155'), send('00B201D4000000'))     # another header amid a chain
+    9000 6883
+
 For testers: a card that was taken away in the middle of a command. APPEND RECORD and ACTIVATE write a card by stores of one byte; a cut makes the
 first of them, and answers how many the whole command has. Here the last one is missing, that of the count, so the record is none:
 
@@ -111,8 +133,8 @@ A status word is an answer, whatever it says. A call that gets none is refused, 
     ...
     malquindo.Refused: 2 BAD_IMAGE: the image is not well formed
 
-rights, open, command, move_card, file, certificate, Index and read_stamp are for most callers, cut for testers. malquindo_rights, malquindo_open,
-malquindo_command, malquindo_cut, malquindo_move, malquindo_file, malquindo_certificate, malquindo_index_build, malquindo_index_extend,
+rights, open, command, chained, chain, move_card, file, certificate, Index and read_stamp are for most callers, cut for testers. malquindo_rights,
+malquindo_open, malquindo_command, malquindo_cut, malquindo_move, malquindo_file, malquindo_certificate, malquindo_index_build, malquindo_index_extend,
 malquindo_index_read and malquindo_stamp_read are the functions of the header themselves: they take every buffer of the call and answer the
 number of 64 bits, so that a test can lend a buffer that is too short.
 
@@ -132,9 +154,9 @@ import subprocess
 import sys
 from typing import Iterable, NamedTuple, Optional, Tuple, Union
 
-__all__ = ['RIGHTS_LEN', 'SESSION_LEN', 'RESPONSE_LEN', 'IMAGE_LEN', 'RECORDS', 'STAMP_LEN', 'STAMP_PLACES', 'Refusal', 'Refused', 'Answer',
-           'Source', 'Certificate', 'Index', 'StampField', 'Reason', 'StampFault', 'Stamp', 'rights', 'open', 'command', 'cut', 'move_card', 'file',
-           'certificate', 'read_stamp',
+__all__ = ['RIGHTS_LEN', 'SESSION_LEN', 'CHAIN_LEN', 'RESPONSE_LEN', 'IMAGE_LEN', 'RECORDS', 'STAMP_LEN', 'STAMP_PLACES', 'Refusal', 'Refused', 'Answer',
+           'Chain', 'Source', 'Certificate', 'Index', 'StampField', 'Reason', 'StampFault', 'Stamp', 'rights', 'open', 'command', 'chained', 'chain', 'cut',
+           'move_card', 'file', 'certificate', 'read_stamp',
            'malquindo_session_len', 'malquindo_rights', 'malquindo_open', 'malquindo_command', 'malquindo_cut', 'malquindo_move', 'malquindo_file',
            'malquindo_certificate', 'malquindo_index_build', 'malquindo_index_extend', 'malquindo_index_read', 'malquindo_stamp_read',
            'malquindo_refusal', 'malquindo_length', 'malquindo_status', 'malquindo_stores', 'malquindo_moved', 'malquindo_file_place',
@@ -143,7 +165,8 @@ __all__ = ['RIGHTS_LEN', 'SESSION_LEN', 'RESPONSE_LEN', 'IMAGE_LEN', 'RECORDS', 
            'malquindo_index_length', 'malquindo_stamp_reason', 'malquindo_stamp_offset', 'malquindo_stamp_place', 'malquindo_stamp_length']
 
 RIGHTS_LEN = 60         # the rights of a chain: three certificates of 20 bytes
-SESSION_LEN = 25        # a session
+SESSION_LEN = 1054      # a session
+CHAIN_LEN = 1024        # the most bytes of data that a command has, whole or in links
 RESPONSE_LEN = 2050     # the shortest response buffer: 2,048 bytes of data, SW1, SW2
 IMAGE_LEN = 262144      # the longest card image
 RECORDS = 254           # the most records of a file
@@ -154,6 +177,9 @@ ROOT = pathlib.Path(__file__).resolve().parents[2]
 ARCHIVE = ROOT / 'target/staticlib/libmalquindo.a'
 SHARED = ROOT / 'target/staticlib/libmalquindo.so'
 BUILD = 'python3 host/python/malquindo.py build'
+# b5 of CLA: more links follow. Where a session holds its chain: the length, little-endian, INS, P1 and P2, the data.
+MORE = 0x10
+CHAIN_AT = 25
 # Names a shared object that is used instead, for one that was made elsewhere.
 VARIABLE = 'MALQUINDO_LIBRARY'
 
@@ -214,6 +240,12 @@ class Answer(NamedTuple):
 
     def __str__(self) -> str:
         return f'{self.data.hex().upper()} {self.status:04X}'.lstrip()
+
+
+class Chain(NamedTuple):
+    """The chain that is open in a session: INS, P1 and P2, which the next link must have, too, and the data of the links so far, joined."""
+    header: bytes
+    data: bytes
 
 
 class Source(enum.IntEnum):
@@ -371,11 +403,43 @@ def open(rights: Buffer) -> bytearray:
 
 
 def command(image: Written, session: Written, command: Buffer) -> Answer:
-    """Runs one command on a card image. Image and session change in place, and only where the status is 0x9000."""
+    """Runs one command on a card image. Image and session change in place, and only where the status is 0x9000. But any other status drops the
+    session's open chain; a refusal keeps it.
+
+    A command's data may come in links, as `chained` makes them. With an open chain, a command with another INS, P1 or P2 gets 0x6883.
+    """
     response = bytearray(RESPONSE_LEN)
     result = accept(malquindo_command(image, session, command, response))
     # The answer ends with the status word.
     return Answer(bytes(response[:malquindo_length(result) - 2]), malquindo_status(result))
+
+
+def chained(header: Buffer, data: Buffer, ne: Optional[int], most: int) -> list[bytes]:
+    """Splits a command into links, each with at most `most` bytes of data. Send them one after the other, and stop where one is not answered 0x9000.
+
+    The command is its CLA, INS, P1 and P2, its data and Ne, the most bytes of data that it asks for: None where it has no Le, else 1 to 65,536. All links
+    but the last have b5 of CLA set, and no Le. Data that fits into one link makes one, the command itself. A link is written in the short form where
+    its data and Ne fit that, 255 and 256 bytes, and else in the extended one. No link has more than CHAIN_LEN bytes; 0 in a link counts as 1. More than
+    CHAIN_LEN bytes in all are split, too, but the machine answers 0x6700.
+    """
+    cla, *rest = four(header)
+    view = bytes(byte_view('data', data))
+    if ne is not None and not 1 <= fitting('Ne', ne, 4) <= 65536:
+        raise ValueError('Ne is from 1 to 65,536')
+    most = min(max(fitting('the most bytes of a link', most, 8), 1), CHAIN_LEN)
+    # The last link has what is left behind the others, at least a byte where there is data.
+    last = max(len(view) - 1, 0) // most * most
+    links = [framed(bytes([cla | MORE, *rest]), view[at:at + most], None) for at in range(0, last, most)]
+    return [*links, framed(bytes([cla & ~MORE, *rest]), view[last:], ne)]
+
+
+def chain(session: Buffer) -> Optional[Chain]:
+    """The chain that is open in a session. None where no chain is; also where the bytes are too few or say more than CHAIN_LEN, and so are no session."""
+    held = bytes(byte_view('session', session)[CHAIN_AT:SESSION_LEN])
+    length = int.from_bytes(held[:2], 'little')
+    if len(held) < 5 + CHAIN_LEN or not 1 <= length <= CHAIN_LEN:
+        return None
+    return Chain(held[2:5], held[5:5 + length])
 
 
 def cut(image: Written, session: Buffer, command: Buffer, stores: int) -> int:
@@ -383,7 +447,8 @@ def cut(image: Written, session: Buffer, command: Buffer, stores: int) -> int:
 
     APPEND RECORD of n bytes has n + 4 stores of one byte each: the record's length, its bytes, and last the file's count. ACTIVATE has one, the
     state. Any other command has none, and neither have these two where `command` would not answer 0x9000: then the image stays. UPDATE BINARY
-    is among the others, though it writes. A number beyond the last store is the whole command. The session is only read.
+    is among the others, though it writes. A number beyond the last store is the whole command. Of an append in links the last one has the stores
+    of all the data, and a link before it has none. The session is only read.
     """
     return malquindo_stores(accept(malquindo_cut(image, session, command, stores)))
 
@@ -594,6 +659,24 @@ def room(pair: Tuple[int, int]) -> Tuple[int, int]:
     if not (0 <= kind < 1 << 16 and 0 <= length < 1 << 32):
         raise ValueError(f'a kind has 2 bytes and a length has 4, unlike {pair!r}')
     return kind, length
+
+
+def four(header: Buffer) -> bytes:
+    """CLA, INS, P1 and P2."""
+    view = bytes(byte_view('header', header))
+    if len(view) != 4:
+        raise ValueError(f'a header is CLA, INS, P1 and P2, not {len(view)} bytes')
+    return view
+
+
+def framed(header: bytes, data: bytes, ne: Optional[int]) -> bytes:
+    """A command in the short form where it fits that, and else in the extended one, which begins with a byte 0 before Lc or before Le alone."""
+    extended = len(data) > 255 or ne is not None and ne > 256
+    size = 2 if extended else 1
+    lc = len(data).to_bytes(size, 'big') if data else b''
+    # 256 is written as 0, as 65,536 is in two bytes.
+    le = b'' if ne is None else (ne % (1 << 8 * size)).to_bytes(size, 'big')
+    return header + (b'\0' if extended else b'') + lc + data + le
 
 
 def fitting(name: str, number: int, size: int) -> int:

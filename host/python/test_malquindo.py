@@ -64,13 +64,14 @@ class Worked(Case):
             self.assertEqual(str(malquindo.command(self.image, self.session, bytes.fromhex(command))), answer, command)
 
     def test_only_9000_changes(self):
+        """But for an open chain, which any other status drops."""
         numbers = random.Random(1)
         done = 0
         for _ in range(3000):
             command = bytearray.fromhex(numbers.choice(WORKED)[0])
             if numbers.random() < 0.5:
                 command[numbers.randrange(len(command))] ^= 1 << numbers.randrange(8)
-            before = bytes(self.image), bytes(self.session)
+            before = bytes(self.image), bytes(self.session[:25]) + bytes(1029)
             answer = malquindo.command(self.image, self.session, command)
             if answer.status == 0x9000:
                 done += 1
@@ -177,7 +178,7 @@ class Short(Case):
         self.assertEqual(response, b'\x90\x00' + b'\xA5' * (malquindo.RESPONSE_LEN - 2))
 
     def test_short_rights_open_a_session_without_rights(self):
-        session = bytearray(b'\xA5' * 27)
+        session = bytearray(b'\xA5' * (malquindo.SESSION_LEN + 2))
         self.answers(malquindo.malquindo_open(ALL_RIGHTS[1:], session), Refusal.BAD_RIGHTS)
         self.assertEqual(session, bytes(malquindo.SESSION_LEN) + b'\xA5' * 2)
         self.refused(Refusal.BAD_RIGHTS, malquindo.open, ALL_RIGHTS + b'\xFF')
@@ -189,7 +190,7 @@ class Sessions(Case):
         self.assertEqual(len(self.session), malquindo.SESSION_LEN)
 
     def test_malformed(self):
-        for at, byte in ((20, 4), (21, 3), (22, 1), (24, 1)):
+        for at, byte in ((20, 4), (21, 3), (22, 1), (24, 1), (25, 1), (27, 0xE2), (30, 1), (1053, 1)):
             session = bytearray(self.session)
             session[at] = byte
             before = bytes(session)
@@ -204,7 +205,115 @@ class Sessions(Case):
     def test_bytes_behind_it_stay(self):
         session = self.session + b'\xA5' * 3
         self.assertEqual(malquindo.command(self.image, session, SELECT).status, 0x9000)
-        self.assertEqual((session[20], session[25:]), (1, b'\xA5' * 3))
+        self.assertEqual((session[20], session[25:]), (1, bytes(1029) + b'\xA5' * 3))
+
+
+class Chains(Case):
+    """Commands in links: each link but the last opens the chain that the links so far are, and changes nothing else."""
+    APPEND, SEARCH, FMM = (bytes.fromhex(header) for header in ('00E200D0', '00A200F8', '805E0107'))
+    CERTIFICATE = bytes(7 * i % 251 for i in range(900))
+
+    def setUp(self):
+        self.image = malquindo.move_card(b'', [(0x0101, 40), (0x0102, 40), (0x011A, 1000)])
+        self.session = malquindo.open(ALL_RIGHTS)
+        self.assertEqual(malquindo.command(self.image, self.session, SELECT), (b'', 0x9000))
+
+    def send(self, image, session, header, data, ne, most):
+        """Sends a command in links, and gives the answer to the last one."""
+        *links, last = malquindo.chained(header, data, ne, most)
+        before = bytes(image), bytes(session[:25])
+        for n, link in enumerate(links, 1):
+            self.assertEqual(malquindo.command(image, session, link), (b'', 0x9000))
+            self.assertEqual(malquindo.chain(session), (header[1:], data[:n * most]))
+            self.assertEqual((bytes(image), bytes(session[:25])), before)
+        answer = malquindo.command(image, session, last)
+        self.assertIsNone(malquindo.chain(session))
+        self.assertEqual(session[25:], bytes(1029))
+        return answer
+
+    def test_the_links(self):
+        for most, links in ((4, ['805E0107045102010100']), (10**9, ['805E0107045102010100']), (3, ['905E010703510201', '805E0107010100']),
+                            (1, ['905E01070151', '905E01070102', '905E01070101', '805E0107010100'])):
+            self.assertEqual([link.hex().upper() for link in malquindo.chained(self.FMM, bytes.fromhex('51020101'), 256, most)], links)
+        self.assertEqual(malquindo.chained(b'\x90' + self.FMM[1:], b'ab', None, 0), malquindo.chained(self.FMM, b'ab', None, 1))
+        for ne, le in ((None, ''), (1, '01'), (256, '00'), (257, '000101'), (65535, '00FFFF'), (65536, '000000')):
+            self.assertEqual(malquindo.chained(self.FMM, b'', ne, 255), [self.FMM + bytes.fromhex(le)])
+        self.assertEqual(malquindo.chained(self.FMM, b'a', 65536, 255), [self.FMM + bytes.fromhex('000001610000')])
+        sizes = {(255, 255): [255], (256, 255): [255, 1], (510, 255): [255, 255], (900, 228): [228, 228, 228, 216], (1025, 2000): [1024, 1]}
+        for (count, most), parts in sizes.items():
+            links = malquindo.chained(self.APPEND, bytes(count), None, most)
+            self.assertEqual([len(link) - (5 if link[4] else 7) for link in links], parts)
+
+    def test_a_certificate(self):
+        whole, after = bytearray(self.image), bytearray(self.session)
+        self.assertEqual(self.send(whole, after, self.APPEND, self.CERTIFICATE, None, 900), (b'', 0x9000))
+        for most in (1, 7, 127, 228, 255, 256, 450, 899):
+            image, session = bytearray(self.image), bytearray(self.session)
+            self.assertEqual(self.send(image, session, self.APPEND, self.CERTIFICATE, None, most), (b'', 0x9000))
+            self.assertEqual((image, session), (whole, after))
+        self.assertEqual(malquindo.command(whole, after, bytes.fromhex('00B201D4000000')), (self.CERTIFICATE, 0x9000))
+
+    def test_a_search(self):
+        for record in (b'abc', b'def', b'xde'):
+            self.assertEqual(self.send(self.image, self.session, self.APPEND, record, None, 2), (b'', 0x9000))
+        data = bytes.fromhex('7F76185101D0A10B800100B006020100020100A306B10481026465')
+        for most in range(1, len(data) + 1):
+            for ne in (256, 65536):
+                self.assertEqual(self.send(self.image, self.session, self.SEARCH, data, ne, most), (bytes.fromhex('7F76095101D0020102020103'), 0x9000))
+
+    def test_a_status_drops_the_chain(self):
+        before = bytes(self.image), bytes(self.session)
+        for digits, status in (('00B2010C000000', 0x6883), ('00E200D8', 0x6883), ('10E200D801FF', 0x6883), ('10E200D0', 0x6700), ('00E200D0020A', 0x6700),
+                               ('20E200D001FF', 0x6E00), ('80E200D001FF', 0x6D00)):
+            malquindo.command(self.image, self.session, bytes.fromhex('10E200D002AABB'))
+            self.assertEqual(malquindo.chain(self.session), (self.APPEND[1:], b'\xAA\xBB'))
+            self.assertEqual(malquindo.command(self.image, self.session, bytes.fromhex(digits)), (b'', status))
+            self.assertEqual((self.image, self.session), before)
+        for most in (1024, 1000, 255):
+            self.assertEqual(self.send(self.image, self.session, self.APPEND, bytes(1025), None, most), (b'', 0x6700))
+            self.assertEqual((self.image, self.session), before)
+
+    def test_a_refusal_keeps_it(self):
+        malquindo.command(self.image, self.session, bytes.fromhex('10E200D002AABB'))
+        before = bytes(self.session)
+        self.answers(malquindo.malquindo_command(self.image, self.session, SELECT, bytearray(2049)), Refusal.SHORT_BUFFER)
+        self.refused(Refusal.BAD_IMAGE, malquindo.command, bytearray(b'no card'), self.session, SELECT)
+        self.assertEqual(self.session, before)
+        self.assertEqual(malquindo.open(ALL_RIGHTS)[25:], bytes(1029))
+
+    def test_a_cut(self):
+        *links, last = malquindo.chained(self.APPEND, self.CERTIFICATE, None, 228)
+        for link in links:
+            self.assertEqual(malquindo.cut(self.image, self.session, link, 9), 0)
+            self.assertEqual(malquindo.command(self.image, self.session, link), (b'', 0x9000))
+        before = bytes(self.session)
+        for made in (0, 5, 903):
+            self.assertEqual(malquindo.cut(self.image, self.session, last, made), 904)
+            self.assertEqual((self.image[98:100], self.session), (bytes(2), before))
+        self.assertEqual(malquindo.cut(self.image, self.session, last, 904), 904)
+        self.assertEqual(self.image[98:1002], bytes.fromhex('01008403') + self.CERTIFICATE)
+
+    def test_chains_that_cannot_be(self):
+        for held, length in (('0000E200D0', None), ('0100E200D00707', 1), ('0104E200D007', None), ('FFFFE200D007', None), ('0100E300D007', 1),
+                             ('0100E200D107', 1)):
+            session = bytearray((self.session[:25] + bytes.fromhex(held)).ljust(1054, b'\0'))
+            before, chain = bytes(session), malquindo.chain(session)
+            self.assertEqual(chain and len(chain.data), length)
+            self.refused(Refusal.BAD_SESSION, malquindo.command, self.image, session, SELECT)
+            self.assertEqual(session, before)
+        for held in (b'', self.session[:25], self.session[:-1]):
+            self.assertIsNone(malquindo.chain(held))
+
+    def test_wrong_arguments(self):
+        for wrong in ('00E200D0', 7, None):
+            self.assertRaises(TypeError, malquindo.chained, wrong, b'', None, 255)
+            self.assertRaises(TypeError, malquindo.chained, self.APPEND, wrong, None, 255)
+            self.assertRaises(TypeError, malquindo.chain, wrong)
+        self.assertRaises(TypeError, malquindo.chained, self.APPEND, b'', None, None)
+        self.assertRaises(TypeError, malquindo.chained, self.APPEND, b'', '00', 255)
+        for header, ne, most in ((self.APPEND[1:], None, 255), (self.APPEND, 0, 255), (self.APPEND, 65537, 255), (self.APPEND, -1, 255),
+                                 (self.APPEND, None, -1)):
+            self.assertRaises(ValueError, malquindo.chained, header, b'data', ne, most)
 
 
 class Buffers(Case):
@@ -218,7 +327,7 @@ class Buffers(Case):
     def test_what_is_written_is_not_only_read(self):
         for wrong in (bytes(self.image), memoryview(bytes(self.image)), memoryview(self.image).toreadonly(), b''):
             self.assertRaises(TypeError, malquindo.command, wrong, self.session, SELECT)
-        self.assertRaises(TypeError, malquindo.malquindo_open, ALL_RIGHTS, bytes(25))
+        self.assertRaises(TypeError, malquindo.malquindo_open, ALL_RIGHTS, bytes(malquindo.SESSION_LEN))
 
     def test_bytes_that_do_not_lie_side_by_side(self):
         wide = bytearray(2 * len(self.image))
@@ -231,7 +340,7 @@ class Buffers(Case):
         self.assertRaises(ValueError, malquindo.malquindo_command, both, self.session, SELECT, both)
         self.assertRaises(ValueError, malquindo.malquindo_command, view[:0x800], view[0x7FF:0x820], SELECT, bytearray(2050))
         # Side by side is no overlap; what is only read is copied.
-        self.answers(malquindo.malquindo_command(view[:5], view[5:30], view[:9], view[30:2080]), Refusal.BAD_IMAGE)
+        self.answers(malquindo.malquindo_command(view[:5], view[5:1059], view[:9], view[1059:3109]), Refusal.BAD_IMAGE)
 
     def test_parts_of_a_buffer(self):
         shelf = bytearray(b'\xA5' * 8) + self.image + b'\xA5' * 8
@@ -334,8 +443,8 @@ class Cuts(Case):
 
     def test_refused(self):
         append = self.append(self.LOST)
-        for image, session, refusal in ((b'no card', self.session, 2), (b'no card', b'', 2), (self.image, b'', 4), (self.image, bytes(24), 4),
-                                        (self.image, b'\xFF' * 25, 4), (b'', self.session, 4)):
+        for image, session, refusal in ((b'no card', self.session, 2), (b'no card', b'', 2), (self.image, b'', 4), (self.image, bytes(1053), 4),
+                                        (self.image, b'\xFF' * 1054, 4), (b'', self.session, 4)):
             kept = bytearray(image)
             self.refused(Refusal(refusal), malquindo.cut, kept, session, append, 3)
             self.answers(malquindo.malquindo_cut(kept, session, append, 3), refusal)
@@ -348,7 +457,7 @@ class Cuts(Case):
         self.assertEqual((shelf[:100], shelf[-1]), (bytes(100), 0xEE))
         self.assertEqual([i for i, (a, b) in enumerate(zip(part, self.image)) if a != b], [6 + len(self.body(self.FIRST))])
         # What is only read is copied, so a session in the image does no harm.
-        self.assertEqual(malquindo.malquindo_cut(self.image, memoryview(self.image)[:25], SELECT, 1), 4 << 32)
+        self.assertEqual(malquindo.malquindo_cut(self.image, memoryview(self.image), SELECT, 1), 4 << 32)
 
     def test_wrong_arguments(self):
         append = self.append(self.LOST)
@@ -895,7 +1004,7 @@ class Rights(Case):
                 buffer = bytearray(b'\xA5' * count)
                 self.answers(malquindo.malquindo_rights(good, good, third, buffer), refusal)
                 self.assertEqual(buffer, bytes(60) + b'\xA5' * (count - 60))
-                self.assertEqual(malquindo.open(buffer[:60]), bytes(25))
+                self.assertEqual(malquindo.open(buffer[:60]), bytes(malquindo.SESSION_LEN))
             self.assertEqual(malquindo.malquindo_rights(good, good, b'', buffer), 0)
             self.assertEqual(buffer, 2 * self.given((0, 1, 2)) + bytes(20) + b'\xA5' * (count - 60))
         shelf = bytearray(b'\xA5' * 64)

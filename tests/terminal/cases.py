@@ -1,12 +1,13 @@
 #!/usr/bin/env python3
 """Makes what the program `program_terminal` is run on, and what it must write: crates/program_terminal/stdin, stdout, args and data/.
 
-The card is the card to try of docs/RULES.md, in a file, with a larger room for ExitRecords, so that it can hold stamps, and with a biometrics
-file, so that it can be activated. The input is demo/worked.apdu, then lines that cannot be read, rights in the extensions of certificates, in
-hexadecimal and in words, where the session stands, help, long lines, what the card holds, moves, certificates by their references, stamps, and
-commands that are cut. The answers to the commands are the ones that the source of the rules prints, and for the search by 08 the one of clause
-T1; the rights follow section B of the rules, the extensions section CE, the certificates section P, the stamps section TR, the stores of an
-append clause R7, that of an activation clause N7; the words are those of the tables below.
+The card is the card to try of docs/RULES.md, in a file, with larger rooms for ExitRecords and travel certificates, so that they can hold stamps
+and a long certificate, and with a biometrics file, so that it can be activated. The input is demo/worked.apdu, then lines that cannot be read,
+rights in the extensions of certificates, in hexadecimal and in words, where the session stands, help, long lines, what the card holds, moves,
+certificates by their references, stamps, commands that are cut, and commands in links. The answers to the commands are the ones that the source
+of the rules prints, and for the search by 08 the one of clause T1; the rights follow section B of the rules, the extensions section CE, the
+certificates section P, the stamps section TR, the stores of an append clause R7, that of an activation clause N7. What comes of links follows
+ISO's command chaining: the join of their data is the data of one command. The words are those of the tables below.
 
 The gate compares standard output alone. `run.py` beside this file compares standard error and the exit status, too.
 
@@ -22,11 +23,14 @@ WORDS = {
     "9000": "Normal processing",
     "6282": "No record matches",
     "6700": "Wrong length",
+    "6883": "Last command of the chain expected",
     "6982": "Security status not satisfied",
     "6A82": "File or application not found",
     "6A83": "Record not found",
     "6A84": "Not enough memory space in the file",
+    "6A86": "Incorrect parameters P1-P2",
     "6B00": "Wrong offset, at or past the end of the file",
+    "6D00": "Instruction not supported",
     "6E00": "Class not supported",
 }
 
@@ -50,6 +54,9 @@ MUCH = 524288
 HELP = """\
 Each line is answered. Spaces may stand anywhere in a command and in the bytes of `open`; # starts a comment.
   00 B2 01 0C 00 00 00        a command, in hexadecimal
+  10 E2 00 08 02 AA BB        a link: the first part of a command's data, or a further one. CLA 10 stands for 00, 90 for 80; no Le
+  00 E2 00 08 01 CC           the last link: the rest of the data, with the same INS, P1 and P2. This is one APPEND RECORD of AA BB CC
+                              (any status but 9000 drops the links so far, and so does opening a session)
   open all                    opens a session with every right; `open none` with none
   open travel=read,append visa=read biometrics5=write
                               opens a session with what a certificate would grant
@@ -57,7 +64,7 @@ Each line is answered. Spaces may stand anywhere in a command and in the bytes o
   certificates RUN RUN RUN    opens a session with the rights in the extensions of three certificates, and says which these are
                               (a run is hexadecimal without spaces, `-` for none; refused, the session has no rights)
   rights                      says what the session may do
-  session                     says the session's application, file and record
+  session                     says the session's application, file, record and chain
   show                        lists what the card holds
   certificate 07              shows the certificate that a stamp names by 07
   certificate 07 other.card   looks for it on the card, and then in the card image of a file
@@ -81,7 +88,7 @@ def section(kind, body):
 
 
 # the rooms of EntryRecords, ExitRecords and travel certificates; of biometrics certificates and Biometrics 1, as a move names them
-ROOMS = (40, 1000, 40)
+ROOMS = (40, 1000, 2000)
 IRIS = (7, 9)
 IRIS_ROOMS = " 031A 7 0401 9"
 
@@ -172,16 +179,19 @@ def run_of(rights):
 
 
 class Cases:
-    """The lines of the input and what is answered: standard output and standard error; and the records of ExitRecords after all."""
+    """The lines of the input and what is answered: standard output and standard error; and the records of ExitRecords and the travel
+    certificates after all."""
 
     def __init__(self):
         self.stdin, self.stdout, self.stderr = [], [], []
-        self.exits = [b"\x77"]
+        self.exits, self.certificates = [b"\x77"], []
 
-    def command(self, line, answer):
+    def command(self, line, answer, *behind):
+        """A command, its answer, and what is said behind it."""
         self.stdin.append(line)
         self.stdout.append("> " + spaced(line.split("#")[0].strip()))
         self.stdout.append("< " + spaced(answer) + " : " + WORDS[answer[-4:]])
+        self.stdout.extend(behind)
 
     def says(self, line, *lines):
         self.stdin.append(line)
@@ -223,7 +233,7 @@ def worked(c):
     c.says("session", "= session: travel, EntryRecords, record 3")
     # small letters, no spaces, a tab; a class that there is not
     c.command("00b20104000000", RECORDS[0] + "9000")
-    c.command("\t10 B2 01 04 00 00 00", "6E00")
+    c.command("\t20 B2 01 04 00 00 00", "6E00")
     c.says("session # as before", "= session: travel, EntryRecords, record 3")
 
 
@@ -357,6 +367,7 @@ def certificates(c):
         c.says("certificate " + reference, f"= certificate {reference}{missing}")
     c.says("certificate 01 desk.card", "= certificate 01 is in desk.card: D1")
     c.command("00E200D003C0C1C2", "9000")
+    c.certificates.append(bytes.fromhex("C0C1C2"))
     # now the card has number 1, and the desk's copy of it does not count
     c.says("certificate 01", "= certificate 01 is on the card: C0 C1 C2")
     c.says(" certificate\t1  desk.card # a comment", "= certificate 01 is on the card: C0 C1 C2")
@@ -543,6 +554,108 @@ def cuts(c):
     c.command(f"00B2{len(c.exits) + 1:02X}14000000", "6A83")
 
 
+DROPPED = "= chain dropped"
+CERTIFICATE = bytes(7 * i % 251 for i in range(900))
+
+
+def short(cla, header, data, le=""):
+    """A command or a link with a short Lc, where it has data."""
+    return cla + header + (f"{len(data):02X}{data.hex()}" if data else "") + le
+
+
+def opened(n):
+    return f"= chain open, bytes so far: {n}"
+
+
+def linked(c, header, *parts):
+    """Links but the last, from a session without a chain."""
+    n = 0
+    for part in parts:
+        n += len(part)
+        c.command(short("10", header, part), "9000", opened(n))
+
+
+def long_certificate(c):
+    """A certificate of 900 bytes in four links: it is on the card when the last one is answered, and not before."""
+    parts = [CERTIFICATE[i:i + 228] for i in range(0, 900, 228)]
+    assert [len(p) for p in parts] == [228, 228, 228, 216]
+    linked(c, "E200D0", *parts[:3])
+    c.says("session", "= session: travel, no file, chain of E2 00 D0 open, bytes so far: 684")
+    c.says("certificate 02", "= certificate 02 is missing: it is not on the card")
+    c.command(short("00", "E200D0", parts[3]), "9000")
+    c.certificates.append(CERTIFICATE)
+    c.says("session", "= session: travel, certificates, record 2")
+    c.says("certificate 02", "= certificate 02 is on the card: " + spaced(CERTIFICATE.hex()))
+    c.command("00B202D4000000", CERTIFICATE.hex() + "9000")
+
+
+def linked_search(c):
+    """A search in two links, and one whose last link has no data of its own."""
+    window = object_of(0xB0, bytes.fromhex("020100020103"))               # Q2: the first three bytes of each record
+    how, what = object_of(0xA1, bytes.fromhex("800100") + window), object_of(0xA3, object_of(0xB1, object_of(0x81, bytes.fromhex("C0C1C2"))))
+    asked = object_of(0x7F76, object_of(0x51, b"\xD0") + how + what)
+    for cut in (5, len(asked)):
+        linked(c, "A200F8", asked[:cut])
+        c.command(short("00", "A200F8", asked[cut:], "00"), "7F76065101D00201019000")
+    c.says("session", "= session: travel, certificates, record 1")
+
+
+def dropped_chains(c):
+    """What drops a chain: another header; a status of the link itself, which comes before; too many bytes; the command's own answer; an opening."""
+    where = "= session: travel, certificates, record 1"
+    for line, status in (("00B2010C000000", "6883"), ("00E2000801FF", "6883"), ("10E200D801FF", "6883"), ("00E201D001FF", "6883"),
+                         ("20E200D001FF", "6E00"), ("00FF00D001FF", "6D00"), ("80E200D001FF", "6D00"), ("00E200D0", "9000"), ("00E200D002FF", "6700"),
+                         ("10E200D0", "6700"), ("10E200D001FF00", "6700"), ("00E200D001FF00", "6700")):
+        linked(c, "E200D0", b"\xAA", b"\xBB\xCC")
+        if status == "9000":                                                # a last link without data
+            c.command(line, status)
+            c.certificates.append(b"\xAA\xBB\xCC")
+            c.command("00B201D4000000", "C0C1C29000")
+            where = "= session: travel, certificates, record 3"
+        else:
+            c.command(line, status, DROPPED)
+        c.says("session", where)
+    c.command("10E200D1 01 FF", "6A86")
+    c.command("10E200D0", "6700")
+    c.says("session", where)
+    # 1,025 bytes in five links; 930, one more than a certificate may have, which the last link tells
+    linked(c, "E200D0", *[bytes(255)] * 4)
+    c.command(short("10", "E200D0", bytes(5)), "6700", DROPPED)
+    linked(c, "E200D0", *[bytes(230)] * 4)
+    c.command(short("00", "E200D0", bytes(10)), "6700", DROPPED)
+    for line in ("open all", "certificates - - -"):
+        linked(c, "A4040C", bytes.fromhex("A0000002472001"))
+        c.says(line, OPENED, *(["= rights: none"] if line[0] == "c" else []))
+        c.says("session", "= session: master file, no file")
+    c.says("open all", OPENED)
+    # SELECT in two links
+    linked(c, "A4040C", bytes.fromhex("A00000"))
+    c.says("session", "= session: master file, no file, chain of A4 04 0C open, bytes so far: 3")
+    c.command("00A4040C0402472001", "9000")
+    c.says("session", "= session: travel, no file")
+
+
+def cut_links(c):
+    """A link before the last has no stores. The last has those of the join, and a cut leaves the chain open: the last link can be sent again."""
+    c.says("cut 9 10E2001001F0", NO_STORES)
+    linked(c, "E20010", b"\xF1\xF2", b"\xF3")
+    for line, said in (("cut 3 10E2001001F4", NO_STORES), ("cut 5 00E2001002F4F5", "= stores made: 5 of 9"), ("cut 5 00E2001802F4F5", NO_STORES),
+                       ("cut 8 00E20010", "= stores made: 7 of 7")):
+        c.says(line, said)
+        c.says("session", "= session: travel, no file, chain of E2 00 10 open, bytes so far: 3")
+    c.command("00E2001002F4F5", "9000")
+    c.exits += [bytes.fromhex("F1F2F3"), bytes.fromhex("F1F2F3F4F5")]
+    c.command(f"00B2{len(c.exits) - 1:02X}15000000", "F1F2F3F1F2F3F4F59000")
+
+
+def chains(c):
+    """Commands whose data comes in links, with travel selected and no file."""
+    long_certificate(c)
+    linked_search(c)
+    dropped_chains(c)
+    cut_links(c)
+
+
 def shown_moved(rooms, visa=(), iris=IRIS):
     """The card behind `rights`, which appended the byte 77 to ExitRecords."""
     lines = shown(*RECORDS, rooms=rooms, visa=visa, iris=iris)
@@ -564,6 +677,7 @@ def cases():
     certificates(c)
     stamps(c)
     cuts(c)
+    chains(c)
     # a last line that does not end
     c.command("00B2030C000000", RECORDS[2] + "9000")
     return c

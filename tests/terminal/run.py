@@ -1,6 +1,6 @@
 #!/usr/bin/env python3
-"""Runs the terminal and tests what the gate cannot: the exit status, standard error, what the card's file holds at each moment, what a stop
-or a command that is cut leaves in it, a terminal as standard input, and the script ./malquindo. Only Python's own library is used.
+"""Runs the terminal and tests what the gate cannot: the exit status, standard error, what the card's file holds at each moment, what a stop,
+a command that is cut or one in links leaves in it, a terminal as standard input, and the script ./malquindo. Only Python's own library is used.
 
 usage: python3 tests/terminal/run.py [--stops N] [--seed N]      (after `rt check program_terminal`)
 """
@@ -115,7 +115,7 @@ def test_gate_cases(folder):
     assert status == 1
     kept = bodies(read(folder, "try.card"))
     assert [r.hex().upper() for r in records(kept[0x0101])] == cases.RECORDS and records(kept[0x0102]) == c.exits
-    assert records(kept[0x011A]) == [b"\xC0\xC1\xC2"] and kept[0x0401] == biometrics_body(1, b"\xAA\xBB", 4)
+    assert records(kept[0x011A]) == c.certificates and kept[0x0401] == biometrics_body(1, b"\xAA\xBB", 4)
     for name in cases.FILES.keys() - {"try.card"}:
         assert read(folder, name) == cases.FILES[name]          # a copy is only read
     assert len(read(folder, "larger.card")) == 236 and records(bodies(read(folder, "larger.card"))[0x0101]) == records(kept[0x0101])
@@ -413,6 +413,17 @@ def timed(folder, name, stdin):
     return len(out), (time.monotonic() - began) / 500
 
 
+def test_links(folder):
+    """Nothing is stored before the last link. The chain is the session's: it ends with the run, and a last link is then a command of its own."""
+    name, first, last = write(folder, "links.card", to_try()), "10E2000802AABB", "00E2000801CC"
+    status, out, err = run(folder, "\n".join((SELECT[1], first)).encode(), name)
+    assert (status, err) == (0, "") and out.endswith("< 90 00 : Normal processing\n= chain open, bytes so far: 2\n"), (out, err)
+    assert read(folder, name) == to_try()
+    for lines, expected in (((last,), [b"\xCC"]), ((first, last), [b"\xCC", b"\xAA\xBB\xCC"])):
+        assert run(folder, "\n".join((SELECT[1], *lines)).encode(), name)[0] == 0
+        assert records(bodies(read(folder, name))[0x0101]) == expected
+
+
 def test_script(folder):
     """./malquindo hands on arguments, answers and status."""
     write(folder, "script.card", to_try())
@@ -429,7 +440,7 @@ def main():
     options = parser.parse_args()
     print(f"seed {options.seed}")
     tests = [test_gate_cases, test_status, test_certificates, test_extensions, test_stamps, test_no_card, test_long, test_typed, test_kept, test_cut,
-             test_cut_commands, test_script]
+             test_cut_commands, test_links, test_script]
     for test in tests:
         with tempfile.TemporaryDirectory() as folder:
             test(folder)

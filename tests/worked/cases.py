@@ -202,7 +202,7 @@ def wrapped_reads():
     call(odd("0000", "540100", 256), "6986")                                     # no current file
     call(odd("0201", "540100", 256), "6A82")                                     # the application is not selected
     call(odd("2F01", "54010E", 256), "9000", wrapped(bytes.fromhex("0802")))     # the end of EF.ATR/INFO
-    call("00B12F01035401005C", "9000", wrapped(bytes.fromhex("47038601607F66080202040002020802")))
+    call("00B12F01035401005C", "9000", wrapped(bytes.fromhex("47038601E07F66080202040002020802")))
     call(SELECT_BIOMETRICS, "9000")
     call(odd("011A", "540100", 256), "6981")
     call(odd("0203", "540100", 256), "6A82")

@@ -1,5 +1,5 @@
 -- Every public function of this crate has one outcome: its contract leaves nothing open. Read before: specs/Determined.antt of base.
-use mathlib.Core.Path.{ap, sym, _∙_}
+use mathlib.Core.Path.{ap₂, sym, _∙_}
 use Rattle.base.specs.Determined.{Determined}
 use Rattle.machine.proofs.open.Kinds as open-kinds
 use Rattle.machine.proofs.open.Reads as open-reads
@@ -15,4 +15,5 @@ pub judged-determined : Determined judged-kinds.ps judged-kinds.r judged-reads.P
 judged-determined κs a e f p q i = ((p ∙ sym q) i, e .1)
 
 pub command-determined : Determined command-kinds.ps command-kinds.r command-reads.Post
-command-determined κs a e f p q = ap (λ o. (o .answer, (o .image, (tt, (tt, (o .buffer, tt)))))) (p ∙ sym q)
+command-determined κs a e f p q =
+    ap₂ (λ o l. (o .answer, (o .image, (tt, (l, (tt, (o .buffer, tt))))))) (p .0 ∙ sym (q .0)) (p .1 ∙ sym (q .1))

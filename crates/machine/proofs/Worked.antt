@@ -32,6 +32,7 @@ use Rattle.machine_record.specs.ReadRecord.{recordNamed, fourOrFive, readRecord
 use Rattle.machine_record.specs.SearchRecord.{searchShort, searchNamed, searchRecord, searchHits, searchReply, searchStatus}
 use Rattle.machine_select.specs.Fmm.{fmmOn, fmmNamed, fmmFile, lcFits, fmm}
 use Rattle.machine_select.specs.Select.{selectBy, oneOfThree, lengthFits, select}
+use Rattle.machine_link.specs.Link.{isLink, turn}
 use Rattle.machine_dispatch.specs.Decide.{byIns, byOwnIns, byClass, decide, dataOf}
 use Rattle.machine_answer.specs.Outcome.{word, says}
 use Rattle.machine.specs.Effects.{searched, done}
@@ -39,5 +40,5 @@ use Rattle.machine.specs.Step.{stepBy, step}
 use Rattle.machine.specs.Worked.{Worked, recordsInRow, sectionOf40, cardWith, chainOf, allRights, travelAt, repliesWith}
 
 pub worked : Worked
-unfolding recordsInRow sectionOf40 cardWith chainOf allRights travelAt repliesWith splice putFits put allOf count behind place firsts records nth used appendFits okAt okTo bodyOk appendable recordBytes appended append le16 le32 bytes16 rules firstRule ruleOf allRules isBiometrics applicationOf there presentBy kindOk findFrom find has present sectionOk sectionsOk wellFormed body recordsOf withBody appendTo byId byShort idOf aidPrefix agreesTo aidOf big bytesIn bytesOf shortest lengthBytes tagBytes tlv formIn formOf readForm readBy lengthOf headOf numberIn readReference readSearch certificate joinedBytes joined clearedBytes cleared noRights held effective sameBytes same isCleared bit flagged recordBit certificateBit mayRecords be16At orMost headerOf framed firstShape shapes shapeOf inOrder fileMeant isCertificates mayRecord mayInspect resolveRecord resolveFile opened isCurrent setFile currentRecord applicationFits placeFits sessionFits verdict begins occursIn windowOf matchesIn recordsJoined recordsData isMatch matchingTo matching hits listed foundData reply capacity further total remaining existing asked reportData lcOnly leOnly neither allLe be16 orCurrent appendOn appendRecord recordNamed fourOrFive readRecordOn allOfRecord readRecord searchShort searchNamed searchRecord searchHits searchReply searchStatus fmmOn fmmNamed fmmFile lcFits fmm selectBy oneOfThree lengthFits select byIns byOwnIns byClass decide dataOf word says searched done stepBy step
+unfolding recordsInRow sectionOf40 cardWith chainOf allRights travelAt repliesWith splice putFits put allOf count behind place firsts records nth used appendFits okAt okTo bodyOk appendable recordBytes appended append le16 le32 bytes16 rules firstRule ruleOf allRules isBiometrics applicationOf there presentBy kindOk findFrom find has present sectionOk sectionsOk wellFormed body recordsOf withBody appendTo byId byShort idOf aidPrefix agreesTo aidOf big bytesIn bytesOf shortest lengthBytes tagBytes tlv formIn formOf readForm readBy lengthOf headOf numberIn readReference readSearch certificate joinedBytes joined clearedBytes cleared noRights held effective sameBytes same isCleared bit flagged recordBit certificateBit mayRecords be16At orMost headerOf framed firstShape shapes shapeOf inOrder fileMeant isCertificates mayRecord mayInspect resolveRecord resolveFile opened isCurrent setFile currentRecord applicationFits placeFits sessionFits verdict begins occursIn windowOf matchesIn recordsJoined recordsData isMatch matchingTo matching hits listed foundData reply capacity further total remaining existing asked reportData lcOnly leOnly neither allLe be16 orCurrent appendOn appendRecord recordNamed fourOrFive readRecordOn allOfRecord readRecord searchShort searchNamed searchRecord searchHits searchReply searchStatus fmmOn fmmNamed fmmFile lcFits fmm selectBy oneOfThree lengthFits select byIns byOwnIns byClass decide dataOf isLink turn word says searched done stepBy step
 worked = (refl, refl, refl, (refl, (refl, (refl, (refl, (refl, (refl, (refl, (refl, (refl, (refl, (refl, (refl, (refl, (refl, tt)))))))))))))))

@@ -1,53 +1,41 @@
 -- One call.
 use Prim.Native.Nat.{ℕ}
-use mathlib.Core.List.{List}
+use mathlib.Core.List.{List, [], _∷_}
 use lib.ListN.{length}
-use Rattle.machine_apdu.specs.Shape.{shapeOf}
-use Rattle.machine_apdu.specs.declared.Apdu.{Apdu}
-use Rattle.machine_apdu.specs.declared.Apdu.the-variants.{Bad, Good}
+use Rattle.base.specs.Choice.{allOf}
+use Rattle.machine_chain.specs.Chain.{Chain}
+use Rattle.machine_link.specs.Link.{chainFits}
 use Rattle.machine_session.specs.Session.{opened, sessionFits}
 use Rattle.machine_session.specs.Verdict.{verdict, openVerdict}
 use Rattle.machine_session.specs.declared.Session.{Session}
 use Rattle.machine_session.specs.declared.Verdict.{Verdict}
 use Rattle.machine_session.specs.declared.Verdict.the-variants.{Accepted, Refused}
-use Rattle.machine_dispatch.specs.Decide.{decide, dataOf}
+use Rattle.machine_dispatch.specs.Decide.{dataOf, decide, chainBehind}
 use Rattle.machine_answer.specs.Outcome.{Outcome, outcome, refused}
 use Rattle.machine.specs.Effects.{done}
 use Rattle.machine_answer.specs.declared.Answer.{Answer}
-use Rattle.machine.specs.declared.Judgement.{Judgement}
-use Rattle.machine.specs.declared.Judgement.the-variants.{Denied, Decided}
 
--- the verdict on a command with a response buffer of n bytes [U5]
-abbrev pub verdictOn : List ℕ → Session → ℕ → Verdict
-verdictOn img s n = verdict img (sessionFits img s) n
-
--- where the data field of a command stands, and its length; that of a bad shape is empty [U5] [U6]
-abbrev pub dataAt : Apdu → ℕ
-dataAt Bad = 0
-dataAt (Good f) = f .from
-
--- [U5] [U6]
-abbrev pub dataLength : Apdu → ℕ
-dataLength Bad = 0
-dataLength (Good f) = f .lc
-
--- what a command comes to: a refusal, or an action and where its data field stands [U5] [U6]
-unfoldable pub judgedBy : Verdict → List ℕ → Session → List ℕ → Judgement
-judgedBy Accepted img s cmd = Decided (decide img s cmd) (dataAt (shapeOf cmd)) (dataLength (shapeOf cmd))
-judgedBy (Refused r) img s cmd = Denied r
-
--- that of a command with a response buffer of n bytes [U5] [U6]
-unfoldable pub judged : List ℕ → Session → List ℕ → ℕ → Judgement
-judged img s cmd n = judgedBy (verdictOn img s n) img s cmd
+-- the verdict on a command with a response buffer of n bytes: the session fits, and its chain does [U5] [LK7]
+abbrev pub verdictOn : List ℕ → Session → Chain → ℕ → Verdict
+verdictOn img s ch n = verdict img (allOf (sessionFits img s ∷ chainFits ch ∷ [])) n
 
 -- a refusal touches nothing; an accepted command does what it comes to [U6]
-unfoldable pub stepBy : Verdict → List ℕ → Session → List ℕ → List ℕ → Outcome
-stepBy Accepted img s cmd buf = done (decide img s cmd) img s (dataOf cmd) buf
-stepBy (Refused r) img s cmd buf = outcome (refused r s) img buf
+unfoldable pub stepBy : Verdict → List ℕ → Session → Chain → List ℕ → List ℕ → Outcome
+stepBy Accepted img s ch cmd buf = done (decide img s ch cmd) img s (dataOf ch cmd) buf
+stepBy (Refused r) img s ch cmd buf = outcome (refused r s) img buf
 
--- a command [U5] [U6] [U8]
-unfoldable pub step : List ℕ → Session → List ℕ → List ℕ → Outcome
-step img s cmd buf = stepBy (verdictOn img s (length buf)) img s cmd buf
+-- a command, in a session with the chain ch [U5] [U6] [U8]
+unfoldable pub step : List ℕ → Session → Chain → List ℕ → List ℕ → Outcome
+step img s ch cmd buf = stepBy (verdictOn img s ch (length buf)) img s ch cmd buf
+
+-- the chain afterwards; a refusal leaves it [U6] [LK8]
+abbrev pub chainAfterBy : Verdict → Chain → List ℕ → Chain
+chainAfterBy Accepted ch cmd = chainBehind ch cmd
+chainAfterBy (Refused r) ch cmd = ch
+
+-- [LK8]
+unfoldable pub chainAfter : List ℕ → Session → Chain → List ℕ → ℕ → Chain
+chainAfter img s ch cmd n = chainAfterBy (verdictOn img s ch n) ch cmd
 
 -- an opening: length 0 and status 0, and the session that the certificates open [U7]
 unfoldable pub opening : List ℕ → Answer

@@ -9,6 +9,7 @@ use Rattle.machine_session.specs.declared.Place.{Place}
 use Rattle.machine_session.specs.declared.Place.the-variants.{Nowhere, OnRecord}
 use Rattle.machine_session.specs.declared.Session.{Session}
 use Rattle.machine_session.specs.declared.Verdict.the-variants.{Accepted}
+use Rattle.machine_chain.specs.Chain.{NoChain}
 use Rattle.machine_answer.specs.Outcome.{Outcome}
 use Rattle.machine.specs.Step.{step}
 
@@ -61,9 +62,9 @@ repliesWith d w s img = record {
   buffer = d ++ (w / 256 ∷ w % 256 ∷ replicate (2048 - length d) 0);
 }
 
--- a command on an image in a session, and what it comes to [T1]
+-- a command on an image in a session without a chain, and what it comes to [T1]
 abbrev pub Replies : List ℕ → Session → List ℕ → Outcome → Type 0
-Replies img s c o = step img s c (replicate 2050 0) ≡ o
+Replies img s c o = step img s NoChain c (replicate 2050 0) ≡ o
 
 -- commands one after the other: each starts with the image and the session that the one before left [T1]
 abbrev pub InTurn : List ℕ → Session → List Exchange → Type 0

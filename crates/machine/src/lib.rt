@@ -2,7 +2,10 @@
 use machine_action::Action;
 use machine_answer::Answer;
 use machine_apdu::Apdu;
+use machine_apdu::Frame;
+use machine_apdu::Header;
 use machine_apdu::status;
+use machine_link::Course;
 use machine_record::search_record::search_body;
 use machine_session::Place;
 use machine_session::Refusal;
@@ -14,22 +17,33 @@ use store_files::Transparent;
 use store_kinds::rules::Rule;
 ghost use mathlib.Core.Path.{_≡_};
 ghost use mathlib.Core.Bool.{true};
-ghost use mathlib.Core.List.{[]};
+ghost use mathlib.Core.List.{[], _∷_};
 ghost use Prim.Native.Nat.{_+_, _≤_};
 ghost use lib.ListN.{length};
+ghost use Rattle.base.specs.Choice.{allOf};
+ghost use Rattle.base.specs.Bytes.{put};
+ghost use Rattle.machine_apdu.specs.Status.{normal};
+ghost use Rattle.machine_apdu.specs.Shape.{shapeOf};
+ghost use Rattle.machine_session.specs.Session.{sessionFits};
+ghost use Rattle.machine_chain.specs.Layout.{noChainBytes, isChain, chainIn, joinInto};
+ghost use Rattle.machine_link.specs.Link.{lentFits};
 ghost use Rattle.store_image.specs.Image.{wellFormed};
 ghost use Rattle.store_files.specs.Files.{fileBytes};
 ghost use Rattle.machine_action.specs.declared.Action.the-variants.{SearchRecord, ReadRecord, Report, ReadBinary, ReadBinaryOdd};
-ghost use Rattle.machine_session.specs.declared.Verdict.the-variants.{Accepted};
 ghost use Rattle.machine_dispatch.specs.Loops.{Allowed};
-ghost use Rattle.machine_answer.specs.Outcome.{outcome, refused as refusedAs};
+ghost use Rattle.machine_answer.specs.Outcome.{outcome, word, answered, refused as refusedAs};
 ghost use Rattle.machine.specs.Effects.{searched, done};
-ghost use Rattle.machine.specs.Step.{step, judgedBy, judged, opening};
+ghost use Rattle.machine.specs.Step.{opening};
+ghost use Rattle.machine.specs.Lent.{judgedShape, judged, stepLent, chainInto};
+ghost use Rattle.machine.specs.Loops.{Ready, obeyed};
 
-// What a command comes to: a refusal, or an action and where its data field stands in the command (place and length).
+// What a command comes to before its data are looked at: a refusal; a status word; a link that joins the chain; or a command that is obeyed, with
+// what the chain has before its data.
 pub enum Judgement {
     Denied(Refusal),
-    Decided(Action, usize, usize),
+    Stopped(usize),
+    Linked(Frame),
+    Obeyed(Frame),
 }
 
 // Opens a session with the rights of three certificates.
@@ -187,36 +201,106 @@ fn apply(image: &mut [u8], s: Session, d: Action, data: &[u8], response: &mut [u
     }
 }
 
-// What an accepted command comes to, and where its data field stands.
-fn decided(image: &[u8], s: Session, command: &[u8]) -> Judgement
-    ensures { λ r. ⌜ r ≡ judgedBy Accepted (now (image .entry)) s (now (command .entry)) ⌝ }
+// Whether a session fits an image, and its chain does.
+fn fits(image: &[u8], s: Session, chain: &[u8]) -> bool
+    ensures { λ r. ⌜ r ≡ allOf (sessionFits (now (image .entry)) s ∷ lentFits (now (chain .entry)) ∷ []) ⌝ }
+{
+    if !machine_session::session_fits(image, s) {
+        return false;
+    }
+    machine_link::fits(chain)
+}
+
+// Steps 1 to 3 and what the chain asks of an accepted command.
+fn shaped(chain: &[u8], command: &[u8]) -> Judgement
+    ensures { λ r. ⌜ r ≡ judgedShape (chainIn (now (chain .entry))) (shapeOf (now (command .entry))) ⌝ }
 {
     match machine_apdu::shape(command) {
-        Apdu::Bad => Judgement::Decided(Action::Status(status::WRONG_LENGTH), 0, 0),
-        Apdu::Good(f) => {
-            let data = base::part(command, f.from, f.lc);
-            Judgement::Decided(machine_dispatch::by_class(image, s, f, data), f.from, f.lc)
-        }
+        Apdu::Bad => Judgement::Stopped(status::WRONG_LENGTH),
+        Apdu::Good(f) => match machine_link::turn(chain, f) {
+            Course::Stops(w) => Judgement::Stopped(w),
+            Course::Extends => Judgement::Linked(f),
+            Course::Goes => Judgement::Obeyed(f),
+        },
     }
 }
 
-// Judges a command whose response buffer has n bytes, and decides what it comes to. It touches nothing.
-pub fn judged(image: &[u8], s: Session, command: &[u8], n: usize) -> Judgement
-    ensures { λ r. ⌜ r ≡ judged (now (image .entry)) s (now (command .entry)) n ⌝ }
+// Judges a command whose response buffer has n bytes. It touches nothing.
+pub fn judged(image: &[u8], s: Session, chain: &[u8], command: &[u8], n: usize) -> Judgement
+    ensures { λ r. ⌜ r ≡ judged (now (image .entry)) s (now (chain .entry)) (now (command .entry)) n ⌝ }
 {
-    let fits = machine_session::session_fits(image, s);
-    match machine_session::judge(image, fits, n) {
-        Verdict::Accepted => decided(image, s, command),
+    let both = fits(image, s, chain);
+    match machine_session::judge(image, both, n) {
+        Verdict::Accepted => shaped(chain, command),
         Verdict::Refused(r) => Judgement::Denied(r),
     }
 }
 
-// One command on a card image in a session. The response goes to the buffer's start; the session comes back in the answer.
-pub fn command(image: &mut [u8], s: Session, command: &[u8], response: &mut [u8]) -> Answer
-    ensures { λ a. ⌜ outcome a (now (image .exit)) (now (response .exit)) ≡ step (now (image .entry)) s (now (command .entry)) (now (response .entry)) ⌝ }
+// A status word that ends a chain, where there is one, and changes nothing else.
+fn stop(s: Session, w: usize, chain: &mut [u8], response: &mut [u8]) -> Answer
+    requires { ⌜ isChain (now chain) ≡ true ⌝ }
+    ensures { λ a. ⌜ (a ≡ answered 0 w s) × (now (response .exit) ≡ put (now (response .entry)) 0 (word w)) × (now (chain .exit) ≡ put (now (chain .entry)) 0 noChainBytes) ⌝ }
 {
-    match judged(image, s, command, response.len()) {
+    machine_chain::end(chain);
+    machine_answer::status_only(s, w, response)
+}
+
+// A link joins the chain, and changes nothing else.
+fn link(s: Session, h: Header, own: &[u8], chain: &mut [u8], response: &mut [u8]) -> Answer
+    ensures { λ a. ⌜ (a ≡ answered 0 normal s) × (now (response .exit) ≡ put (now (response .entry)) 0 (word normal)) × (now (chain .exit) ≡ joinInto (now (chain .entry)) h (now (own .entry))) ⌝ }
+{
+    machine_chain::extend(chain, h, own);
+    machine_answer::status_only(s, status::NORMAL, response)
+}
+
+// The whole command is obeyed: its own data join the chain, which lends all of them, and then ends.
+fn obey(
+    image: &mut [u8],
+    s: Session,
+    f: Frame,
+    own: &[u8],
+    chain: &mut [u8],
+    response: &mut [u8],
+) -> Answer
+    requires { ⌜ Ready (now image) (now chain) f (now own) (length (now response)) ⌝ }
+    ensures { λ a. ⌜ (outcome a (now (image .exit)) (now (response .exit)) ≡ obeyed (now (image .entry)) s (chainIn (now (chain .entry))) f (now (own .entry)) (now (response .entry))) × (now (chain .exit) ≡ put (now (chain .entry)) 0 noChainBytes) ⌝ }
+{
+    let h = f.header;
+    machine_chain::join(chain, h, own);
+    let data = machine_chain::joined(chain, own);
+    let whole = Frame {
+        header: h,
+        from: f.from,
+        lc: data.len(),
+        le: f.le,
+        ne: f.ne,
+    };
+    let d = machine_dispatch::by_class(image, s, whole, data);
+    let a = apply(image, s, d, data, response);
+    machine_chain::end(chain);
+    a
+}
+
+// One command on a card image in a session, whose chain is lent. The response goes to the buffer's start; the session comes back in the answer.
+pub fn command(
+    image: &mut [u8],
+    s: Session,
+    chain: &mut [u8],
+    command: &[u8],
+    response: &mut [u8],
+) -> Answer
+    ensures { λ a. ⌜ (outcome a (now (image .exit)) (now (response .exit)) ≡ stepLent (now (image .entry)) s (now (chain .entry)) (now (command .entry)) (now (response .entry))) × (now (chain .exit) ≡ chainInto (now (image .entry)) s (now (chain .entry)) (now (command .entry)) (length (now (response .entry)))) ⌝ }
+{
+    match judged(image, s, chain, command, response.len()) {
         Judgement::Denied(r) => refused(r, s),
-        Judgement::Decided(d, at, n) => apply(image, s, d, base::part(command, at, n), response),
+        Judgement::Stopped(w) => stop(s, w, chain, response),
+        Judgement::Linked(f) => {
+            let own = base::part(command, f.from, f.lc);
+            link(s, f.header, own, chain, response)
+        }
+        Judgement::Obeyed(f) => {
+            let own = base::part(command, f.from, f.lc);
+            obey(image, s, f, own, chain, response)
+        }
     }
 }

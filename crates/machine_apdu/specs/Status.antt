@@ -56,3 +56,7 @@ recordNotFound = 0x6A83
 -- step 10 of APPEND RECORD and UPDATE BINARY [W4] [O12]
 abbrev pub noRoom : ℕ
 noRoom = 0x6A84
+
+-- amid a chain, a header that is not the chain's [LK3]
+abbrev pub otherHeader : ℕ
+otherHeader = 0x6883

@@ -32,3 +32,6 @@ pub const WRONG_OFFSET: usize = 0x6B00;
 pub const RECORD_NOT_FOUND: usize = 0x6A83;
 
 pub const NO_ROOM: usize = 0x6A84;
+
+// Another header amid a chain.
+pub const OTHER_HEADER: usize = 0x6883;

@@ -9,6 +9,8 @@ use Rattle.machine_binary.proofs.read_binary_odd.read_binary_odd.Kinds 
 use Rattle.machine_binary.proofs.read_binary_odd.read_binary_odd.Reads as read-binary-odd-reads
 use Rattle.machine_binary.proofs.update_binary.update_binary.Kinds as update-binary-kinds
 use Rattle.machine_binary.proofs.update_binary.update_binary.Reads as update-binary-reads
+use Rattle.machine_binary.proofs.read_binary.p1_fits.Kinds as p1-fits-kinds
+use Rattle.machine_binary.proofs.read_binary.p1_fits.Reads as p1-fits-reads
 
 pub activate-file-determined : Determined activate-file-kinds.ps activate-file-kinds.r activate-file-reads.Post
 activate-file-determined κs a e f p q i = ((p ∙ sym q) i, e .1)
@@ -21,3 +23,6 @@ read-binary-odd-determined κs a e f p q i = ((p ∙ sym q) i, e .1)
 
 pub update-binary-determined : Determined update-binary-kinds.ps update-binary-kinds.r update-binary-reads.Post
 update-binary-determined κs a e f p q i = ((p ∙ sym q) i, e .1)
+
+pub p1-fits-determined : Determined p1-fits-kinds.ps p1-fits-kinds.r p1-fits-reads.Post
+p1-fits-determined κs a e f p q i = ((p ∙ sym q) i, e .1)

@@ -1,5 +1,6 @@
 -- ACTIVATE.
 use Prim.Native.Nat.{ℕ}
+use mathlib.Core.Bool.{Bool}
 use mathlib.Core.List.{List, [], _∷_}
 use lib.Dec.{eqb}
 use Rattle.base.specs.Choice.{allOf}
@@ -13,12 +14,16 @@ use Rattle.machine_action.specs.Tests.{neither, onBiometrics}
 use Rattle.machine_action.specs.declared.Action.{Action}
 use Rattle.machine_action.specs.declared.Action.the-variants.{Status, Activate}
 
+-- [A1]
+abbrev pub activateParameters : ℕ → ℕ → Bool
+activateParameters p1 p2 = allOf (eqb p1 0 ∷ eqb p2 0 ∷ [])
+
 -- [A1] [O4] [O5]
 unfoldable pub activateFile : List ℕ → Session → Frame → Action
 activateFile img s f =
     inOrder
     -- step 4
-    ((allOf (eqb (f .header .p1) 0 ∷ eqb (f .header .p2) 0 ∷ []), Status wrongParameters)
+    ((activateParameters (f .header .p1) (f .header .p2), Status wrongParameters)
     -- step 5
     ∷ (neither f, Status wrongLength)
     ∷ [])

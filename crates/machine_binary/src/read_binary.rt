@@ -13,7 +13,7 @@ ghost use mathlib.Core.Path.{_≡_};
 ghost use Rattle.machine_binary.specs.ReadBinary.{p1Fits, readNamed, readOffset, readBinaryOn, readBinary};
 
 // P1 with b8 one has b7 and b6 zero.
-fn p1_fits(p1: usize) -> bool
+pub fn p1_fits(p1: usize) -> bool
     ensures { λ r. ⌜ r ≡ p1Fits p1 ⌝ }
 {
     if p1 < 0x80 {

@@ -6,4 +6,4 @@ use Rattle.machine_cut.proofs.cut.Kinds as cut-kinds
 use Rattle.machine_cut.proofs.cut.Reads as cut-reads
 
 pub cut-determined : Determined cut-kinds.ps cut-kinds.r cut-reads.Post
-cut-determined κs a e f p q i = ((p ∙ sym q) i .answer, ((p ∙ sym q) i .image, (tt, (tt, (tt, tt)))))
+cut-determined κs a e f p q i = ((p ∙ sym q) i .answer, ((p ∙ sym q) i .image, (tt, (tt, (tt, (tt, tt))))))

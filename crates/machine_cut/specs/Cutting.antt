@@ -5,14 +5,16 @@ use lib.ListN.{length}
 use Rattle.store_kinds.specs.Rules.{biometricsKind}
 use Rattle.store_cut.specs.declared.Writing.the-variants.{Record, State}
 use Rattle.store_image.specs.Image.{storesIn, makeStoresIn}
-use Rattle.machine_session.specs.Session.{sessionFits}
-use Rattle.machine_session.specs.Verdict.{verdict}
 use Rattle.machine_session.specs.declared.Session.{Session}
 use Rattle.machine_session.specs.declared.Verdict.{Verdict}
 use Rattle.machine_session.specs.declared.Verdict.the-variants.{Accepted, Refused}
+use Rattle.machine_chain.specs.Chain.{Chain}
+use Rattle.machine_chain.specs.Layout.{chainIn}
 use Rattle.machine_action.specs.declared.Action.{Action}
 use Rattle.machine_action.specs.declared.Action.the-variants.{Status, SelectApplication, SelectFile, ReadBinary, UpdateBinary, Activate, AppendRecord, ReadRecord, SearchRecord, Report, ReadBinaryOdd}
-use Rattle.machine_dispatch.specs.Decide.{decide, dataOf}
+use Rattle.machine_dispatch.specs.Decide.{dataOf, decide}
+use Rattle.machine.specs.Step.{verdictOn}
+use Rattle.machine.specs.Lent.{verdictLent}
 use Rattle.machine_cut.specs.declared.Storage.{Storage}
 use Rattle.machine_cut.specs.declared.Storage.the-variants.{To, Nothing}
 use Rattle.machine_cut.specs.declared.CutAnswer.{CutAnswer}
@@ -51,12 +53,17 @@ abbrev pub cutOutcome : CutAnswer → List ℕ → CutOutcome
 cutOutcome a img = record { answer = a; image = img }
 
 -- a refusal touches nothing [CU6]
-abbrev pub cutBy : Verdict → List ℕ → Session → List ℕ → ℕ → CutOutcome
-cutBy Accepted img s cmd n =
-    let t = storing (decide img s cmd) in
-    cutOutcome (record { verdict = Accepted; stores = cutStores t img (dataOf cmd) }) (cutImage n t img (dataOf cmd))
-cutBy (Refused r) img s cmd n = cutOutcome (record { verdict = Refused r; stores = 0 }) img
+abbrev pub cutBy : Verdict → List ℕ → Session → Chain → List ℕ → ℕ → CutOutcome
+cutBy Accepted img s ch cmd n =
+    let t = storing (decide img s ch cmd) in
+    cutOutcome (record { verdict = Accepted; stores = cutStores t img (dataOf ch cmd) }) (cutImage n t img (dataOf ch cmd))
+cutBy (Refused r) img s ch cmd n = cutOutcome (record { verdict = Refused r; stores = 0 }) img
 
--- a command that is cut behind its first n stores, judged as one whose response buffer is long enough [CU6]
-unfoldable pub cut : List ℕ → Session → List ℕ → ℕ → CutOutcome
-cut img s cmd n = cutBy (verdict img (sessionFits img s) 2050) img s cmd n
+-- a command that is cut behind its first n stores, judged as one whose response buffer is long enough. Behind a chain it has the stores of the
+-- join; a link but the last has none [CU6] [CU9]
+unfoldable pub cut : List ℕ → Session → Chain → List ℕ → ℕ → CutOutcome
+cut img s ch cmd n = cutBy (verdictOn img s ch 2050) img s ch cmd n
+
+-- the same, where the chain stands in the bytes xs [CU9] [LK2]
+unfoldable pub cutLent : List ℕ → Session → List ℕ → List ℕ → ℕ → CutOutcome
+cutLent img s xs cmd n = cutBy (verdictLent img s xs 2050) img s (chainIn xs) cmd n

@@ -1,2 +1,3 @@
 -- A command that is cut.
 pub mod Cutting
+pub mod Loops

@@ -3,9 +3,10 @@
 use Prim.Native.Nat.{ℕ, _+_, _-_, _/_, _%_, _≤_, _<_}
 use mathlib.Core.Path.{_≡_, refl, sym, ap, _∙_, subst}
 use mathlib.Core.Bool.{Bool, true, _||_, or-true}
-use mathlib.Core.List.{List, []}
+use mathlib.Core.List.{List, [], _++_}
 use native.Mathlib.Omega.{arith}
-use lib.ListN.{length, length-take, length-drop, List·getD-eq-default}
+use lib.ListN.{length, getD, length-append, length-take, length-drop, List·getD-append, List·getD-eq-default}
+use lib.Seq.{getD-append-add}
 use lib.Dec.{leb, ltb, eqb, lit<}
 use borrow.Author.Tests.{leb-true, ltb-true, ltb-false}
 use Rattle.base.specs.Choice.{ifElse}
@@ -57,11 +58,16 @@ use Rattle.machine_session.specs.declared.ResolvedBiometrics.the-variants.{Biom
 use Rattle.machine_session.specs.declared.ResolvedFile.{ResolvedFile}
 use Rattle.machine_session.specs.declared.ResolvedFile.the-variants.{FileStop, FileAt}
 use Rattle.machine_session.proofs.Steps.{inOrder-each, RecordResolved, TransparentResolved, BiometricsResolved, FileResolved, RecordOk, TransparentOk, BiometricsOk, AnyOk, resolveRecord-wellFormed, resolveTransparent-wellFormed, resolveBiometrics-wellFormed, resolveFile-wellFormed}
-use Rattle.machine_apdu.specs.Status.{wrongLength}
+use Rattle.machine_apdu.specs.Status.{normal, wrongLength}
 use Rattle.machine_apdu.specs.Shape.{shapeOf}
 use Rattle.machine_apdu.specs.declared.Apdu.{Apdu}
 use Rattle.machine_apdu.specs.declared.Apdu.the-variants.{Bad, Good}
 use Rattle.machine_apdu.specs.declared.Frame.{Frame}
+use Rattle.machine_chain.specs.Chain.{Chain, soFar}
+use Rattle.machine_link.specs.Link.{turn}
+use Rattle.machine_link.specs.declared.Course.{Course}
+use Rattle.machine_link.specs.declared.Course.the-variants.{Stops, Extends, Goes}
+use Rattle.machine_link.proofs.Turning.{Turned, stopped, joined, gone, turn-told}
 use Rattle.machine_apdu.proofs.Laws.{shape-facts}
 use Rattle.machine_action.specs.Tests.{lcOnly, p1p2, idIn, orCurrent, idOrCurrent, onRecord, onTransparent, onBiometrics, onFile}
 use Rattle.machine_select.specs.Select.{selectAid, selectMaster, selectFile, selectBy, select}
@@ -74,7 +80,7 @@ use Rattle.machine_record.specs.AppendRecord.{appendOn, appendRecord}
 use Rattle.machine_record.specs.ReadRecord.{recordNamed, readFrom, readRecordOn, readRecord}
 use Rattle.machine_record.specs.SearchRecord.{fileIn, searchNamed, searchOn, searchBy, searchRecord}
 use Rattle.machine_select.specs.Fmm.{fmmOn, fmmNamed, fmmFile, fmmBy, fmm}
-use Rattle.machine_dispatch.specs.Decide.{byIns, byOwnIns, byClass, byShape, decide, dataBy, dataOf}
+use Rattle.machine_dispatch.specs.Decide.{byIns, byOwnIns, byClass, wholeFrame, dataBy, dataOf, onCourse, byShape, decide}
 use Rattle.machine_dispatch.specs.Loops.{Allowed}
 use Rattle.machine_action.specs.declared.Action.{Action}
 use Rattle.machine_action.specs.declared.Action.the-variants.{Status, SelectApplication, SelectFile, ReadBinary, UpdateBinary, Activate, AppendRecord, ReadRecord, SearchRecord, Report, ReadBinaryOdd}
@@ -288,20 +294,33 @@ module _ (img : List ℕ) (s : Session) (f : Frame) (d : List ℕ) where
       (λ n. ifElse-ind P (eqb (f .header .ins) 0xA2) (λ e. search-from (c, e)) (λ n. refl)))))))))
       (λ n. ifElse-ind P (eqb (f .header .cla) 0x80) (λ c. ifElse-ind P (eqb (f .header .ins) 0x5E) (λ e. fmm-from (c, e)) (λ n. refl)) (λ n. refl))
 
--- what a command comes to tells of the command
-abbrev pub FromShape : List ℕ → Session → List ℕ → Apdu → Action → Type 0
-FromShape img s cmd Bad x = x ≡ Status wrongLength
-FromShape img s cmd (Good f) x = From img s f (part cmd (f .from) (f .lc)) x
+-- what a command comes to tells of the command: a status word below 9000; a link that is taken; or the whole command
+abbrev pub FromCourse : Course → List ℕ → Session → Frame → List ℕ → Action → Type 0
+FromCourse (Stops w) img s f d x = (x ≡ Status w) × (ltb w 0x9000 ≡ true)
+FromCourse Extends img s f d x = x ≡ Status normal
+FromCourse Goes img s f d x = From img s f d x
 
-pub decide-from : (img : List ℕ) (s : Session) (cmd : List ℕ) → FromShape img s cmd (shapeOf cmd) (decide img s cmd)
+abbrev pub FromShape : List ℕ → Session → Chain → List ℕ → Apdu → Action → Type 0
+FromShape img s ch cmd Bad x = x ≡ Status wrongLength
+FromShape img s ch cmd (Good f) x = FromCourse (turn ch f) img s (wholeFrame ch f) (soFar ch ++ part cmd (f .from) (f .lc)) x
+
+pub decide-from : (img : List ℕ) (s : Session) (ch : Chain) (cmd : List ℕ) → FromShape img s ch cmd (shapeOf cmd) (decide img s ch cmd)
 unfolding decide
-decide-from img s cmd = go (shapeOf cmd) refl
+decide-from img s ch cmd = go (shapeOf cmd) refl
   where
-    go : (a : Apdu) → shapeOf cmd ≡ a → FromShape img s cmd a (byShape img s cmd a)
+    course : (g f : Frame) (d : List ℕ) (k : Course) → length d ≡ f .lc → Turned ch g k → FromCourse k img s f d (onCourse k img s f d)
+    course g f d (Stops w) l (stopped v b) = (refl, b)
+    course g f d Extends l (joined x) = refl
+    course g f d Goes l (gone x) = class-from img s f d l
+
+    go : (a : Apdu) → shapeOf cmd ≡ a → FromShape img s ch cmd a (byShape img s ch cmd a)
     go Bad e = refl
     go (Good f) e =
         let h = shape-facts cmd (shapeOf cmd) f refl e in
-        class-from img s f (part cmd (f .from) (f .lc)) (length-part cmd (f .from) (f .lc) (h .inside))
+        let d = part cmd (f .from) (f .lc) in
+        course f (wholeFrame ch f) (soFar ch ++ d) (turn ch f)
+        (length-append (soFar ch) d ∙ ap (λ (n : ℕ). length (soFar ch) + n) (length-part cmd (f .from) (f .lc) (h .inside)))
+        (turn-told ch f)
 
 -- the file reference of a search has at most two bytes
 pub reference-short : (d : List ℕ) (q : Search) → readSearch d ≡ Ask q → AllBytes d → length (fileIn d q) ≤ 2
@@ -311,7 +330,7 @@ reference-short d q e b =
     let l : length (part d (q .file .at) (q .file .len)) ≡ length (x .file) = ap length (z .1 .file-placed .is) in
     omega (arith, z .1 .sized .file-size .1)
 
-from-allowed : (img : List ℕ) (s : Session) (f : Frame) (d : List ℕ) (x : Action) → AllBytes d → From img s f d x → Allowed img d x
+pub from-allowed : (img : List ℕ) (s : Session) (f : Frame) (d : List ℕ) (x : Action) → AllBytes d → From img s f d x → Allowed img d x
 from-allowed img s f d (Status w) b h = tt
 from-allowed img s f d (SelectApplication a) b h = tt
 from-allowed img s f d (SelectFile g) b h = tt
@@ -331,11 +350,30 @@ bytes-part c a n b i =
     (λ e. rw (getD-part c a n i (ltb-true i n e)) (b (a + i)))
     (λ e. let h = ltb-false i n e in rw (List·getD-eq-default (part c a n) 0 {n = i} (simp (length-take, length-drop) (omega arith))) (lit< tt))
 
+pub bytes-append : (a b : List ℕ) → AllBytes a → AllBytes b → AllBytes (a ++ b)
+unfolding AllBytes
+bytes-append a b p q i =
+    by-cases (ltb i (length a))
+    (λ e. rw (List·getD-append a b 0 i (ltb-true i (length a) e)) (p i))
+    (λ e.
+    let h = ltb-false i (length a) e in
+    let k : i ≡ length a + (i - length a) = omega arith in
+    rw (ap (λ (j : ℕ). getD (a ++ b) j 0) k ∙ getD-append-add a b (i - length a) 0) (q (i - length a)))
+
 -- whatever is decided, its tests held
-pub decide-allowed : (img : List ℕ) (s : Session) (cmd : List ℕ) → AllBytes cmd → Allowed img (dataOf cmd) (decide img s cmd)
+pub decide-allowed : (img : List ℕ) (s : Session) (ch : Chain) (cmd : List ℕ) → AllBytes (soFar ch) → AllBytes cmd → Allowed img (dataOf ch cmd) (decide img s ch cmd)
 unfolding dataOf
-decide-allowed img s cmd b = go (shapeOf cmd) (decide-from img s cmd)
+decide-allowed img s ch cmd a b = go (shapeOf cmd) (decide-from img s ch cmd)
   where
-    go : (a : Apdu) → FromShape img s cmd a (decide img s cmd) → Allowed img (dataBy cmd a) (decide img s cmd)
+    x : Action
+    x = decide img s ch cmd
+
+    course : (f : Frame) (d : List ℕ) (k : Course) → AllBytes d → FromCourse k img s f d x → Allowed img d x
+    course f d (Stops w) z h = subst (Allowed img d) (sym (h .0)) tt
+    course f d Extends z h = subst (Allowed img d) (sym h) tt
+    course f d Goes z h = from-allowed img s f d x z h
+
+    go : (p : Apdu) → FromShape img s ch cmd p x → Allowed img (dataBy ch cmd p) x
     go Bad h = subst (Allowed img []) (sym h) tt
-    go (Good f) h = from-allowed img s f (part cmd (f .from) (f .lc)) (decide img s cmd) (bytes-part cmd (f .from) (f .lc) b) h
+    go (Good f) h =
+        course (wholeFrame ch f) (soFar ch ++ part cmd (f .from) (f .lc)) (turn ch f) (bytes-append (soFar ch) _ a (bytes-part cmd (f .from) (f .lc) b)) h

@@ -1,3 +1,4 @@
 -- Laws of decisions.
 pub mod Allowing
+pub mod Early
 pub mod Determined

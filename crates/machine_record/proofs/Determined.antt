@@ -9,6 +9,8 @@ use Rattle.machine_record.proofs.search_record.search_record.Kinds as s
 use Rattle.machine_record.proofs.search_record.search_record.Reads as search-record-reads
 use Rattle.machine_record.proofs.search_record.search_body.Kinds as search-body-kinds
 use Rattle.machine_record.proofs.search_record.search_body.Reads as search-body-reads
+use Rattle.machine_record.proofs.read_record.four_or_five.Kinds as four-or-five-kinds
+use Rattle.machine_record.proofs.read_record.four_or_five.Reads as four-or-five-reads
 
 pub append-record-determined : Determined append-record-kinds.ps append-record-kinds.r append-record-reads.Post
 append-record-determined κs a e f p q i = ((p ∙ sym q) i, e .1)
@@ -22,3 +24,6 @@ search-record-determined κs a e f p q i = ((p ∙ sym q) i, e .1)
 pub search-body-determined : Determined search-body-kinds.ps search-body-kinds.r search-body-reads.Post
 search-body-determined κs a e f p q i =
     (record { status = (p .0 ∙ sym (q .0)) i; hits = record { n = (p .1 ∙ sym (q .1)) i; numbers = (p .2 ∙ sym (q .2)) i } }, e .1)
+
+pub four-or-five-determined : Determined four-or-five-kinds.ps four-or-five-kinds.r four-or-five-reads.Post
+four-or-five-determined κs a e f p q i = ((p ∙ sym q) i, e .1)

@@ -1,5 +1,6 @@
 -- APPEND RECORD.
 use Prim.Native.Nat.{ℕ, _/_, _%_}
+use mathlib.Core.Bool.{Bool}
 use mathlib.Core.List.{List, [], _∷_}
 use lib.ListN.{length}
 use lib.Dec.{leb, ltb, eqb}
@@ -27,12 +28,16 @@ appendOn img n r =
     ∷ [])
     (AppendRecord r)
 
+-- P2 has a short id in its five high bits [G1]
+abbrev pub appendParameters : ℕ → ℕ → Bool
+appendParameters p1 p2 = allOf (eqb p1 0 ∷ eqb (p2 % 8) 0 ∷ [])
+
 -- [G1] [O4] [O5]
 unfoldable pub appendRecord : List ℕ → Session → Frame → List ℕ → Action
 appendRecord img s f d =
     inOrder
     -- step 4
-    ((allOf (eqb (f .header .p1) 0 ∷ eqb (f .header .p2 % 8) 0 ∷ []), Status wrongParameters)
+    ((appendParameters (f .header .p1) (f .header .p2), Status wrongParameters)
     -- step 5
     ∷ (lcOnly f, Status wrongLength)
     ∷ [])

@@ -1,5 +1,6 @@
 -- SEARCH RECORD.
 use Prim.Native.Nat.{ℕ, _/_, _%_}
+use mathlib.Core.Bool.{Bool}
 use mathlib.Core.List.{List, [], _∷_}
 use lib.ListN.{length, getD}
 use lib.Dec.{leb, eqb}
@@ -48,12 +49,16 @@ abbrev pub searchBy : List ℕ → Session → ℕ → List ℕ → Query → Ac
 searchBy img s ne d NoQuery = Status wrongData
 searchBy img s ne d (Ask q) = onRecord (resolveRecord img s Read (searchNamed (fileIn d q))) (searchOn q ne)
 
+-- [Q1]
+abbrev pub searchParameters : ℕ → ℕ → Bool
+searchParameters p1 p2 = allOf (eqb p1 0 ∷ eqb p2 0xF8 ∷ [])
+
 -- [Q1] [O4] [O5]
 unfoldable pub searchRecord : List ℕ → Session → Frame → List ℕ → Action
 searchRecord img s f d =
     inOrder
     -- step 4
-    ((allOf (eqb (f .header .p1) 0 ∷ eqb (f .header .p2) 0xF8 ∷ []), Status wrongParameters)
+    ((searchParameters (f .header .p1) (f .header .p2), Status wrongParameters)
     -- step 5
     ∷ (allOf (leb 1 (f .lc) ∷ allLe f ∷ []), Status wrongLength)
     ∷ [])

@@ -50,7 +50,7 @@ fn read_record_on(image: &[u8], s: Session, f: Frame, r: Rule) -> Action
     }
 }
 
-fn four_or_five(low: usize) -> bool
+pub fn four_or_five(low: usize) -> bool
     ensures { λ r. ⌜ r ≡ fourOrFive low ⌝ }
 {
     if low == 4 {

@@ -51,13 +51,21 @@ fmmBy img s p2 d (Refers p) = fmmFile img s p2 (part d (p .at) (p .len))
 unfoldable pub lcFits : ℕ → ℕ → Bool
 lcFits p1 lc = ifElse (eqb p1 0) (eqb lc 0) (leb 1 lc)
 
+-- P1 is 00 or 01 [Z1]
+abbrev pub fmmP1 : ℕ → Bool
+fmmP1 p1 = leb p1 1
+
+-- P2 asks by its three low bits [Z3]
+abbrev pub fmmP2 : ℕ → Bool
+fmmP2 p2 = leb p2 7
+
 -- [Z1] [Z3] [O4] [O5]
 unfoldable pub fmm : List ℕ → Session → Frame → List ℕ → Action
 fmm img s f d =
     inOrder
     -- step 4
-    ((leb (f .header .p1) 1, Status wrongParameters)
-    ∷ (leb (f .header .p2) 7, Status wrongParameters)
+    ((fmmP1 (f .header .p1), Status wrongParameters)
+    ∷ (fmmP2 (f .header .p2), Status wrongParameters)
     -- step 5
     ∷ (lcFits (f .header .p1) (f .lc), Status wrongLength)
     ∷ (allLe f, Status wrongLength)

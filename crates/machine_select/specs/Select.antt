@@ -46,12 +46,16 @@ oneOfThree p1 = eqb p1 0x04 || (eqb p1 0x02 || eqb p1 0x00)
 unfoldable pub lengthFits : ℕ → ℕ → Bool
 lengthFits p1 lc = eqb p1 0x04 || eqb lc 2
 
+-- P2 is 0C: no answer data [L1]
+abbrev pub selectP2 : ℕ → Bool
+selectP2 p2 = eqb p2 0x0C
+
 -- [L1] [O4] [O5]
 unfoldable pub select : List ℕ → Session → Frame → List ℕ → Action
 select img s f d =
     inOrder
     -- step 4
-    ((eqb (f .header .p2) 0x0C, Status wrongParameters)
+    ((selectP2 (f .header .p2), Status wrongParameters)
     ∷ (oneOfThree (f .header .p1), Status wrongParameters)
     -- step 5
     ∷ (lcOnly f, Status wrongLength)

@@ -66,7 +66,7 @@ fn select_by(image: &[u8], s: Session, p1: usize, data: &[u8]) -> Action
     select_master(tests::id_in(data))
 }
 
-fn one_of_three(p1: usize) -> bool
+pub fn one_of_three(p1: usize) -> bool
     ensures { λ r. ⌜ r ≡ oneOfThree p1 ⌝ }
 {
     if p1 == 0x04 {

@@ -152,7 +152,7 @@ read-start s rest h = go (s .application) (s .place) (h .application) (h .place)
         (record-read (with-tail tail) a 2 (k % 256) (k / 256 % 256) (n % 256) (size f t v b tail (h .biometrics) (omega arith)) i (w 0 ∙ low a (omega arith)) (w 1) (w 2) (w 3) (w 4) refl)
         (ap₂ (λ (x y : ℕ). by-rights (held (with-tail tail)) a (OnRecord x y)) (number k (j .0)) (low n (j .1)))))
 
-bytes-length : (s : Session) → length (s .rights .biometrics) ≡ 17 → length (sessionBytes s) ≡ 25
+pub bytes-length : (s : Session) → length (s .rights .biometrics) ≡ 17 → length (sessionBytes s) ≡ 25
 unfolding sessionBytes placeBytes
 bytes-length s h = go (s .application) (s .place)
   where

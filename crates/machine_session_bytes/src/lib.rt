@@ -4,6 +4,7 @@ use machine_session::Session;
 use store_records::little::read16;
 ghost use mathlib.Core.Path.{_≡_};
 ghost use mathlib.Core.List.{_++_};
+ghost use lib.ListN.{length};
 ghost use Rattle.base.specs.Bytes.{putFits, put};
 ghost use Rattle.machine_session_bytes.specs.Layout.{placeBytes, sessionBytes, placeIn, unusedZero, isSession, sessionIn};
 
@@ -88,7 +89,7 @@ fn place_bytes(application: usize, p: Place) -> [u8; 5]
 
 // Stores three pieces at the start, one behind the other, where all of them fit; else it stores nothing.
 fn put_pieces(out: &mut [u8], a: [u8; 3], b: [u8; 17], c: [u8; 5]) -> bool
-    ensures { λ r. ⌜ (r ≡ putFits (now (out .entry)) 0 (a ++ (b ++ c))) × (now (out .exit) ≡ put (now (out .entry)) 0 (a ++ (b ++ c))) ⌝ }
+    ensures { λ r. ⌜ (r ≡ putFits (now (out .entry)) 0 (a ++ (b ++ c))) × (now (out .exit) ≡ put (now (out .entry)) 0 (a ++ (b ++ c))) × (length (a ++ (b ++ c)) ≡ 25) ⌝ }
 {
     if out.len() < LENGTH {
         return false;
@@ -100,7 +101,7 @@ fn put_pieces(out: &mut [u8], a: [u8; 3], b: [u8; 17], c: [u8; 5]) -> bool
 
 // Stores a session at the start, where all of it fits; else it stores nothing. Answers whether it fitted.
 pub fn put_session(out: &mut [u8], s: Session) -> bool
-    ensures { λ r. ⌜ (r ≡ putFits (now (out .entry)) 0 (sessionBytes s)) × (now (out .exit) ≡ put (now (out .entry)) 0 (sessionBytes s)) ⌝ }
+    ensures { λ r. ⌜ (r ≡ putFits (now (out .entry)) 0 (sessionBytes s)) × (now (out .exit) ≡ put (now (out .entry)) 0 (sessionBytes s)) × (length (sessionBytes s) ≡ 25) ⌝ }
 {
     let rights = s.rights;
     let biometrics = rights.biometrics;

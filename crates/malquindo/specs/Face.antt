@@ -1,11 +1,11 @@
 -- What the functions for C answer, and the session bytes afterwards.
 use Prim.Native.Nat.{ℕ, _+_, _*_, _%_}
 use mathlib.Core.Bool.{Bool, false}
-use mathlib.Core.List.{List}
-use lib.ListN.{length}
-use lib.Dec.{eqb}
-use Rattle.base.specs.Choice.{ifElse}
-use Rattle.base.specs.Bytes.{putFits, put}
+use mathlib.Core.List.{List, [], _∷_, _++_}
+use lib.ListN.{length, take, drop}
+use lib.Dec.{leb, eqb}
+use Rattle.base.specs.Choice.{ifElse, allOf}
+use Rattle.base.specs.Bytes.{put}
 use Rattle.machine_apdu.specs.Status.{normal}
 use Rattle.machine_session.specs.Verdict.{verdictNumber, verdict}
 use Rattle.machine_session.specs.declared.Session.{Session}
@@ -13,8 +13,11 @@ use Rattle.machine_session.specs.declared.Refusal.the-variants.{BadSession}
 use Rattle.machine_session.specs.declared.Verdict.{Verdict}
 use Rattle.machine_session.specs.declared.Verdict.the-variants.{Accepted, Refused}
 use Rattle.machine_answer.specs.Outcome.{Outcome}
-use Rattle.machine.specs.Step.{opening, step}
-use Rattle.machine_cut.specs.Cutting.{CutOutcome, cut}
+use Rattle.machine_chain.specs.Chain.{Chain, NoChain}
+use Rattle.machine_chain.specs.Layout.{chainBytes, isChain, chainIn}
+use Rattle.machine.specs.Step.{opening}
+use Rattle.machine.specs.Lent.{stepLent, chainInto}
+use Rattle.machine_cut.specs.Cutting.{CutOutcome, cutLent}
 use Rattle.machine_session_bytes.specs.Layout.{sessionBytes, isSession, sessionIn}
 use Rattle.store_image.specs.Image.{find, wellFormed}
 use Rattle.store_image.specs.declared.Found.{Found}
@@ -42,15 +45,39 @@ abbrev pub openingVerdict : Verdict → Bool → Verdict
 openingVerdict Accepted stored = ifElse stored Accepted (Refused BadSession)
 openingVerdict (Refused r) stored = Refused r
 
+-- the bytes of a session with its chain [X1]
+unfoldable pub wholeBytes : Session → Chain → List ℕ
+wholeBytes s ch = sessionBytes s ++ chainBytes ch
+
+-- a session's buffer takes a session [X4]
+unfoldable pub takesSession : List ℕ → Bool
+takesSession ses = leb 1054 (length ses)
+
+-- the buffer with the session s, without a chain; one that is too short stays [X4]
+unfoldable pub openedIn : List ℕ → Session → List ℕ
+openedIn ses s = ifElse (takesSession ses) (put ses 0 (wholeBytes s NoChain)) ses
+
 -- [X3] [X4]
 unfoldable pub openResult : List ℕ → List ℕ → ℕ
-openResult c ses = resultOf (openingVerdict (opening c .verdict) (putFits ses 0 (sessionBytes (opening c .session)))) 0 0
+openResult c ses = resultOf (openingVerdict (opening c .verdict) (takesSession ses)) 0 0
 
 -- the session opened, where it fits [X4]
 unfoldable pub openSession : List ℕ → List ℕ → List ℕ
-openSession c ses = put ses 0 (sessionBytes (opening c .session))
+openSession c ses = openedIn ses (opening c .session)
 
--- after a command: only 9000 writes the session [X5]
+-- the bytes of the chain stand behind the first 25 [X1]
+abbrev pub chainPart : List ℕ → List ℕ
+chainPart ses = drop 25 ses
+
+-- bytes that are a session with its chain [X2]
+unfoldable pub isSessionC : List ℕ → Bool
+isSessionC ses = allOf (isSession ses ∷ isChain (chainPart ses) ∷ [])
+
+-- the chain that they have [X1]
+abbrev pub chainOfC : List ℕ → Chain
+chainOfC ses = chainIn (chainPart ses)
+
+-- after a command: only 9000 writes the 25 bytes [X5]
 unfoldable pub sessionAfter : List ℕ → ℕ → Session → List ℕ
 sessionAfter ses status s = ifElse (eqb status normal) (put ses 0 (sessionBytes s)) ses
 
@@ -74,9 +101,12 @@ calledBy ses o =
 unfoldable pub malformed : List ℕ → List ℕ → List ℕ → Called
 malformed img ses buf = calledAs (resultOf (verdict img false (length buf)) 0 0) img ses buf
 
--- one step of the machine, in the session that the bytes are [X2] [X5]
+-- one step of the machine, in the session that the bytes are; the bytes of its chain are written where they stand [X2] [X5]
 unfoldable pub called : List ℕ → List ℕ → List ℕ → List ℕ → Called
-called img ses cmd buf = ifElse (isSession ses) (calledBy ses (step img (sessionIn ses) cmd buf)) (malformed img ses buf)
+called img ses cmd buf =
+    ifElse (isSession ses)
+    (calledBy (take 25 ses ++ chainInto img (sessionIn ses) (chainPart ses) cmd (length buf)) (stepLent img (sessionIn ses) (chainPart ses) cmd buf))
+    (malformed img ses buf)
 
 -- of a cut: refusal · 2^32 + how many stores the whole command has, which is below 2^32 [X16]
 unfoldable pub cutResult : Verdict → ℕ → ℕ
@@ -98,7 +128,7 @@ calledCutBy o = calledCutAs (cutResult (o .answer .verdict) (o .answer .stores))
 -- a cut in the session that the bytes are. Bytes that are no session fit no image: nothing is touched [X2] [X16]
 unfoldable pub calledCut : List ℕ → List ℕ → List ℕ → ℕ → CalledCut
 calledCut img ses cmd n =
-    ifElse (isSession ses) (calledCutBy (cut img (sessionIn ses) cmd n)) (calledCutAs (cutResult (verdict img false 2050) 0) img)
+    ifElse (isSession ses) (calledCutBy (cutLent img (sessionIn ses) (chainPart ses) cmd n)) (calledCutAs (cutResult (verdict img false 2050) 0) img)
 
 -- of a move: refusal · 2^32, or the new image's length, which is below 2^32 [X6]
 abbrev pub moveResult : Moved → ℕ

@@ -28,7 +28,10 @@ ghost use Rattle.objects_stamp.specs.Read.{readStamp, readStampInto};
 ghost use Rattle.objects_stamp.specs.declared.StampRead.the-variants.{Told};
 ghost use Rattle.store_index.specs.Index.{build, buildInto, extend, extendInto, measure};
 ghost use Rattle.store_move.specs.Moving.{moveRefusalNumber, moveCard, moveCardInto};
-ghost use Rattle.malquindo.specs.Face.{moveResult, resultOf, openingVerdict, openResult, openSession, sessionAfter, calledAs, called, cutResult, calledCutAs, calledCut, foundResult, fileResult, certificateResult, indexResult, stampResult, rightsResult};
+ghost use Rattle.malquindo.specs.Face.{moveResult, resultOf, openingVerdict, takesSession, openedIn, openResult, openSession, sessionAfter, calledAs, called, cutResult, calledCutAs, calledCut, foundResult, fileResult, certificateResult, indexResult, stampResult, rightsResult};
+
+// How many bytes a session has, with its chain.
+const LENGTH: usize = 1054;
 
 fn refusal_number(r: Refusal) -> u64
     ensures { λ n. ⌜ (n ≡ refusalNumber r) × (n ≤ 4) ⌝ }
@@ -85,9 +88,20 @@ fn keep(session: &mut [u8], status: usize, s: Session) -> bool
 // How many bytes a session has.
 #[no_mangle]
 pub extern "C" fn malquindo_session_len() -> usize
-    ensures { λ r. ⌜ r ≡ 25 ⌝ }
+    ensures { λ r. ⌜ r ≡ 1054 ⌝ }
 {
-    machine_session_bytes::LENGTH
+    LENGTH
+}
+
+// Stores a session without a chain, where all of it fits; else it stores nothing. Answers whether it fitted.
+fn put_opened(session: &mut [u8], s: Session) -> bool
+    ensures { λ r. ⌜ (r ≡ takesSession (now (session .entry))) × (now (session .exit) ≡ openedIn (now (session .entry)) s) ⌝ }
+{
+    if session.len() < LENGTH {
+        return false;
+    }
+    machine_session_bytes::put_session(session, s);
+    base::put(session, 25, &[0u8; 1029])
 }
 
 // Opens a session with the rights of three certificates.
@@ -98,7 +112,7 @@ pub extern "C" fn malquindo_open(rights: &[u8], session: &mut [u8]) -> u64
     let a = machine::open(rights);
     let s = a.session;
     let v = a.verdict;
-    let stored = machine_session_bytes::put_session(session, s);
+    let stored = put_opened(session, s);
     result(opening_verdict(v, stored), 0, 0)
 }
 
@@ -115,12 +129,8 @@ pub extern "C" fn malquindo_command(
     if !machine_session_bytes::is_session(session) {
         return result(machine_session::judge(image, false, response.len()), 0, 0);
     }
-    let a = machine::command(
-        image,
-        machine_session_bytes::session_in(session),
-        command,
-        response,
-    );
+    let given = machine_session_bytes::session_in(session);
+    let a = machine::command(image, given, &mut session[25..], command, response);
     let v = a.verdict;
     let s = a.session;
     keep(session, a.status, s);
@@ -150,6 +160,7 @@ pub extern "C" fn malquindo_cut(
     let a = machine_cut::cut(
         image,
         machine_session_bytes::session_in(session),
+        base::part(session, 25, session.len()),
         command,
         stores,
     );

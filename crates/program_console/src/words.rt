@@ -25,6 +25,7 @@ pub fn status(w: u64)
         0x9000 => word(b"Normal processing"),
         0x6282 => word(b"No record matches"),
         0x6700 => word(b"Wrong length"),
+        0x6883 => word(b"Last command of the chain expected"),
         0x6B00 => word(b"Wrong offset, at or past the end of the file"),
         0x6D00 => word(b"Instruction not supported"),
         0x6E00 => word(b"Class not supported"),

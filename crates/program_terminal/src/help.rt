@@ -9,12 +9,31 @@ pub(crate) fn usage() {
     all();
 }
 
-// The lines that are read, an example and a few words for each: first a command, and those that open a session.
+// The lines that are read, an example and a few words for each: first a command.
 pub(crate) fn all() {
     program_console::word(
         b"Each line is answered. Spaces may stand anywhere in a command and in the bytes of `open`; # starts a comment.\n",
     );
     program_console::word(b"  00 B2 01 0C 00 00 00        a command, in hexadecimal\n");
+    links();
+    openings();
+}
+
+// How a command's data is sent in links.
+fn links() {
+    program_console::word(
+        b"  10 E2 00 08 02 AA BB        a link: the first part of a command's data, or a further one. CLA 10 stands for 00, 90 for 80; no Le\n",
+    );
+    program_console::word(
+        b"  00 E2 00 08 01 CC           the last link: the rest of the data, with the same INS, P1 and P2. This is one APPEND RECORD of AA BB CC\n",
+    );
+    program_console::word(
+        b"                              (any status but 9000 drops the links so far, and so does opening a session)\n",
+    );
+}
+
+// The lines that open a session, and then the others.
+fn openings() {
     program_console::word(
         b"  open all                    opens a session with every right; `open none` with none\n",
     );
@@ -38,7 +57,7 @@ pub(crate) fn all() {
 fn others() {
     program_console::word(b"  rights                      says what the session may do\n");
     program_console::word(
-        b"  session                     says the session's application, file and record\n",
+        b"  session                     says the session's application, file, record and chain\n",
     );
     program_console::word(b"  show                        lists what the card holds\n");
     program_console::word(

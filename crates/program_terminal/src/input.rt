@@ -141,7 +141,7 @@ fn pieces(
 
 // Answers all lines, in a session that has all rights at the start. `kept` is what the card's file holds.
 pub(crate) fn answer_all(image: &mut [u8], kept: &mut [u8], how: How) -> usize {
-    let mut session = [0; 25];
+    let mut session = [0; 1054];
     let rights = [0xFF; 60];
     malquindo::malquindo_open(&rights, &mut session);
     let mut room = io::large_buffer();

@@ -1,5 +1,6 @@
 // One line of the input and its answer. Each function here that answers a line says how it ended (status.rt).
 use crate::certificates;
+use crate::chain;
 use crate::cuts;
 use crate::extensions;
 use crate::help;
@@ -94,17 +95,20 @@ fn echo(command: &[u8]) {
     program_console::end();
 }
 
-// Sends a command to the card, keeps what it changed, and then says what came back.
+// Sends a command to the card, keeps what it changed, and then says what came back, and what became of a chain.
 fn send(command: &[u8], image: &mut [u8], kept: &mut [u8], session: &mut [u8], how: How) -> usize {
     if how.echo {
         echo(command);
     }
+    let before = chain::so_far(session);
     let mut bytes = io::buffer();
     let r = malquindo::malquindo_command(image, session, command, &mut bytes);
     if !keep::change(how.fd, kept, image) {
         return status::NO_CARD;
     }
-    response(r, &bytes)
+    let ended = response(r, &bytes);
+    chain::tell(before, result::status(r), session);
+    ended
 }
 
 // A command's line.

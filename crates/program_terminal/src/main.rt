@@ -3,6 +3,7 @@
 // holds each change before its command is answered; without it the card is the card to try.
 mod card;
 mod certificates;
+mod chain;
 mod cuts;
 mod extensions;
 mod files;

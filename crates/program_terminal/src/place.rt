@@ -1,4 +1,5 @@
-// A session's application and place in words.
+// A session's application, place and chain in words.
+use crate::chain;
 use store_records::little::read16;
 
 fn application(number: usize) {
@@ -26,7 +27,7 @@ fn file(id: usize) {
     }
 }
 
-// Writes a line with the application, the current file and the current record.
+// Writes a line with the application, the current file, the current record and the open chain.
 pub(crate) fn tell(session: &[u8]) {
     application(base::byte(session, 20));
     let place = base::byte(session, 21);
@@ -39,5 +40,6 @@ pub(crate) fn tell(session: &[u8]) {
         program_console::word(b", record");
         program_console::field(base::byte(session, 24));
     }
+    chain::name(session);
     program_console::end();
 }

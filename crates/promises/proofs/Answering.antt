@@ -3,14 +3,16 @@
 use Prim.Native.Nat.{ℕ, _+_, _-_, _≤_}
 use mathlib.Core.Path.{_≡_, refl, sym, ap, ap₂, subst, _∙_}
 use mathlib.Core.Bool.{true}
-use mathlib.Core.List.{List, _++_}
+use mathlib.Core.List.{List, _++_, _∷_, []}
 use native.Mathlib.Omega.{arith}
 use lib.ListN.{length, take, drop, length-append}
 use lib.Dec.{ltb}
 use lib.Seq.{sets, take-take, take-append-seam}
+use Rattle.base.specs.Choice.{allOf}
+use Rattle.machine_chain.specs.Chain.{Chain}
 use Rattle.base.specs.Bytes.{put}
 use Rattle.base.proofs.Runs.{put-accepted, part-sets, sets-append, drop-sets-add, drop-sets-past}
-use Rattle.base.proofs.Cases.{ifElse-ind}
+use Rattle.base.proofs.Cases.{ifElse-ind, allOf-facts}
 use Rattle.store_image.specs.Image.{wellFormed}
 use Rattle.machine_session.specs.Session.{sessionFits}
 use Rattle.machine_session.specs.Verdict.{refusalNumber, verdictNumber, verdict}
@@ -20,6 +22,7 @@ use Rattle.machine_session.specs.declared.Verdict.{Verdict}
 use Rattle.machine_session.specs.declared.Verdict.the-variants.{Accepted, Refused}
 use Rattle.machine_dispatch.specs.Decide.{decide, dataOf}
 use Rattle.machine_answer.specs.Outcome.{word, says}
+use Rattle.machine_link.specs.Link.{chainFits}
 use Rattle.machine.specs.Effects.{done}
 use Rattle.machine.specs.Step.{verdictOn, stepBy, step}
 use Rattle.machine.proofs.Accepting.{Known, verdict-accepted}
@@ -51,41 +54,37 @@ behind-said w dat buf n l room =
     ∙ ap (λ (b : List ℕ). sets b 0 (word w)) (drop-sets-past n buf 0 dat (omega (arith, l)))
 
 -- an accepted call
-pub step-accepted : (img : List ℕ) (s : Session) (cmd buf : List ℕ) → verdictOn img s (length buf) ≡ Accepted → step img s cmd buf ≡ done (decide img s cmd) img s (dataOf cmd) buf
+pub step-accepted : (img : List ℕ) (s : Session) (ch : Chain) (cmd buf : List ℕ) → verdictOn img s ch (length buf) ≡ Accepted → step img s ch cmd buf ≡ done (decide img s ch cmd) img s (dataOf ch cmd) buf
 unfolding step stepBy
-step-accepted img s cmd buf e = ap (λ (x : Verdict). stepBy x img s cmd buf) e
+step-accepted img s ch cmd buf e = ap (λ (x : Verdict). stepBy x img s ch cmd buf) e
 
 -- a call that is not refused is accepted
-pub taken-accepted : (img : List ℕ) (s : Session) (cmd buf : List ℕ) → verdictNumber (step img s cmd buf .answer .verdict) ≡ 0 → verdictOn img s (length buf) ≡ Accepted
+pub taken-accepted : (img : List ℕ) (s : Session) (ch : Chain) (cmd buf : List ℕ) → verdictNumber (step img s ch cmd buf .answer .verdict) ≡ 0 → verdictOn img s ch (length buf) ≡ Accepted
 unfolding step stepBy verdictNumber refusalNumber
-taken-accepted img s cmd buf e = go (verdictOn img s (length buf)) e
+taken-accepted img s ch cmd buf e = go (verdictOn img s ch (length buf)) e
   where
-    go : (x : Verdict) → verdictNumber (stepBy x img s cmd buf .answer .verdict) ≡ 0 → x ≡ Accepted
+    go : (x : Verdict) → verdictNumber (stepBy x img s ch cmd buf .answer .verdict) ≡ 0 → x ≡ Accepted
     go Accepted e = refl
     go (Refused ShortBuffer) e = absurd (omega (arith, e))
     go (Refused BadImage) e = absurd (omega (arith, e))
     go (Refused BadRights) e = absurd (omega (arith, e))
     go (Refused BadSession) e = absurd (omega (arith, e))
 
-pub accepted-room : (img : List ℕ) (s : Session) (buf : List ℕ) → verdictOn img s (length buf) ≡ Accepted → 2050 ≤ length buf
-accepted-room img s buf e = subst (Known img (length buf)) e (verdict-accepted img (sessionFits img s) (length buf)) .1
+-- what is known of an accepted call
+known : (img : List ℕ) (s : Session) (ch : Chain) (n : ℕ) → verdictOn img s ch n ≡ Accepted → (wellFormed img ≡ true) × (2050 ≤ n) × (allOf (sessionFits img s ∷ chainFits ch ∷ []) ≡ true)
+known img s ch n e = subst (Known img (allOf (sessionFits img s ∷ chainFits ch ∷ [])) n) e (verdict-accepted img (allOf (sessionFits img s ∷ chainFits ch ∷ [])) n)
 
-pub accepted-facts : (img : List ℕ) (s : Session) (n : ℕ) → verdictOn img s n ≡ Accepted → (wellFormed img ≡ true) × (sessionFits img s ≡ true)
-unfolding verdict verdictNumber refusalNumber
-accepted-facts img s n e =
-    let P : Verdict → Type 0 = λ x. x ≡ Accepted → (wellFormed img ≡ true) × (sessionFits img s ≡ true) in
-    ifElse-ind P (ltb n 2050)
-    (λ _ z. absurd (omega (arith, ap verdictNumber z)))
-    (λ _. ifElse-ind P (wellFormed img)
-    (λ w. ifElse-ind P (sessionFits img s) (λ f z. (w, f)) (λ _ z. absurd (omega (arith, ap verdictNumber z))))
-    (λ _ z. absurd (omega (arith, ap verdictNumber z))))
-    e
+pub accepted-room : (img : List ℕ) (s : Session) (ch : Chain) (buf : List ℕ) → verdictOn img s ch (length buf) ≡ Accepted → 2050 ≤ length buf
+accepted-room img s ch buf e = known img s ch (length buf) e .1
+
+pub accepted-facts : (img : List ℕ) (s : Session) (ch : Chain) (n : ℕ) → verdictOn img s ch n ≡ Accepted → (wellFormed img ≡ true) × (sessionFits img s ≡ true)
+accepted-facts img s ch n e = let k = known img s ch n e in (k .0, allOf-facts _ (k .2) .0)
 
 -- a call answered 9000 is accepted
-pub status-accepted : (img : List ℕ) (s : Session) (cmd buf : List ℕ) → step img s cmd buf .answer .status ≡ 0x9000 → verdictOn img s (length buf) ≡ Accepted
+pub status-accepted : (img : List ℕ) (s : Session) (ch : Chain) (cmd buf : List ℕ) → step img s ch cmd buf .answer .status ≡ 0x9000 → verdictOn img s ch (length buf) ≡ Accepted
 unfolding step stepBy
-status-accepted img s cmd buf e = go (verdictOn img s (length buf)) e
+status-accepted img s ch cmd buf e = go (verdictOn img s ch (length buf)) e
   where
-    go : (x : Verdict) → stepBy x img s cmd buf .answer .status ≡ 0x9000 → x ≡ Accepted
+    go : (x : Verdict) → stepBy x img s ch cmd buf .answer .status ≡ 0x9000 → x ≡ Accepted
     go Accepted e = refl
     go (Refused r) e = absurd (omega (arith, e))

@@ -9,6 +9,7 @@ use lib.ListN.{length, take, drop, length-take, length-drop}
 use lib.Seq.{take-take, take-all, length-take-le}
 use lib.Dec.{ltb, leb, eqb}
 use borrow.Author.Tests.{eqb-true, eqb-false, eq-eqb, lt-ltb, le-ltb, lt-leb, le-leb, ltb-true, ltb-false, leb-true, leb-false}
+use Rattle.machine_chain.specs.Chain.{Chain}
 use Rattle.base.specs.Choice.{allOf}
 use Rattle.base.specs.Bytes.{part}
 use Rattle.base.proofs.Cases.{by-cases, allOf-accepted}
@@ -151,7 +152,7 @@ module _ (img : List ℕ) (s : Session) (t : Transparent) where
   resolved n h = ap (transparentBy img s) (meant-by-id img s t n h)
 
 -- B0
-module _ (img : List ℕ) (s : Session) (cmd : List ℕ) (f : Frame) (t : Transparent) (offset : ℕ) (r : EvenRead s cmd f t offset) where
+module _ (img : List ℕ) (s : Session) (ch : Chain) (cmd : List ℕ) (f : Frame) (t : Transparent) (offset : ℕ) (r : EvenRead s ch cmd f t offset) where
   even-named : (isMeant s (readNamed f) (TransparentFile t) ≡ true) × (offset ≡ readOffset f) × (p1Fits (f .header .p1) ≡ true)
   unfolding p1Fits namesCurrent
   even-named =
@@ -165,14 +166,14 @@ module _ (img : List ℕ) (s : Session) (cmd : List ℕ) (f : Frame) (t : Transp
   unfolding leOnly
   even-lengths = allOf-accepted _ (eq-eqb (f .lc) 0 (r .no-lc), (le-leb 1 (f .le) (r .le), tt))
 
-  even-decided : decide img s cmd ≡ onTransparent (answer img s t) (readBinaryOn img offset (f .ne))
+  even-decided : decide img s ch cmd ≡ onTransparent (answer img s t) (readBinaryOn img offset (f .ne))
   unfolding readBinary inOrder
   even-decided =
       let n = even-named in
-      even-led cmd f (r .shape) img s (r .pair) ∙ simp (n .2, even-lengths, resolved img s t (readNamed f) (n .0), n .1)
+      even-led ch cmd f (r .shape) img s (r .pair) ∙ simp (n .2, even-lengths, resolved img s t (readNamed f) (n .0), n .1)
 
 -- B1
-module _ (img : List ℕ) (s : Session) (cmd : List ℕ) (f : Frame) (t : Transparent) (offset : ℕ) (r : OddRead s cmd f t offset) where
+module _ (img : List ℕ) (s : Session) (ch : Chain) (cmd : List ℕ) (f : Frame) (t : Transparent) (offset : ℕ) (r : OddRead s ch cmd f t offset) where
   odd-named : isMeant s (idOrCurrent (p1p2 f)) (TransparentFile t) ≡ true
   odd-named =
       by-cases (eqb (p1p2 f) 0)
@@ -180,39 +181,39 @@ module _ (img : List ℕ) (s : Session) (cmd : List ℕ) (f : Frame) (t : Transp
       (λ e. let h = eqb-false (p1p2 f) 0 e in rw (id-or-current (p1p2 f) .1 h) (r .of-id h))
 
   -- the data says the offset
-  odd-offset : readOffsetObject (dataOf cmd) ≡ Offset offset
+  odd-offset : readOffsetObject (dataOf ch cmd) ≡ Offset offset
   odd-offset = let x = offset-complete (r .value) (r .size) in ap readOffsetObject (r .asks) ∙ x .1 ∙ ap Offset (x .2 .offset-is ∙ sym (r .offset-is))
 
   odd-lengths : lcAndLe f ≡ true
   unfolding lcAndLe
   odd-lengths = allOf-accepted _ (le-leb 1 (f .lc) (r .lc), (le-leb 1 (f .le) (r .le), tt))
 
-  odd-decided : decide img s cmd ≡ onTransparent (resolveTransparent img s (idOrCurrent (p1p2 f))) (readOddOn img offset (f .ne))
+  odd-decided : decide img s ch cmd ≡ onTransparent (resolveTransparent img s (idOrCurrent (p1p2 f))) (readOddOn img offset (f .ne))
   unfolding readBinaryOdd inOrder
-  odd-decided = odd-led cmd f (r .shape) img s (r .pair) ∙ simp (odd-lengths, odd-offset)
+  odd-decided = odd-led ch cmd f (r .shape) img s (r .pair) ∙ simp (odd-lengths, odd-offset)
 
 -- ---- the promises
 
 pub both-reads : Both-reads
-both-reads img s even odd buf other f g t offset v w x y =
-    let a = taken-accepted img s even buf v in
-    let b = taken-accepted img s odd other w in
+both-reads img s ch c even odd buf other f g t offset v w x y =
+    let a = taken-accepted img s ch even buf v in
+    let b = taken-accepted img s c odd other w in
     let z = answer img s t in
-    let o : step img s even buf ≡ done (onTransparent z (readBinaryOn img offset (f .ne))) img s (dataOf even) buf =
-    step-accepted img s even buf a ∙ ap (λ (q : Action). done q img s (dataOf even) buf) (even-decided img s even f t offset x) in
-    let p : step img s odd other ≡ done (onTransparent z (readOddOn img offset (g .ne))) img s (dataOf odd) other =
-    step-accepted img s odd other b
-    ∙ ap (λ (q : Action). done q img s (dataOf odd) other) (odd-decided img s odd g t offset y)
-    ∙ ap (λ (q : ResolvedTransparent). done (onTransparent q (readOddOn img offset (g .ne))) img s (dataOf odd) other) (resolved img s t _ (odd-named img s odd g t offset y)) in
-    let k = subst (TransparentOk img s) (resolved img s t (readNamed f) (even-named img s even f t offset x .0)) (resolveTransparent-wellFormed img s (readNamed f)) in
-    rw (o, p) (onward img s offset (f .ne) (g .ne) (dataOf even) (dataOf odd) buf other (accepted-room img s buf a) (accepted-room img s other b) z k)
+    let o : step img s ch even buf ≡ done (onTransparent z (readBinaryOn img offset (f .ne))) img s (dataOf ch even) buf =
+    step-accepted img s ch even buf a ∙ ap (λ (q : Action). done q img s (dataOf ch even) buf) (even-decided img s ch even f t offset x) in
+    let p : step img s c odd other ≡ done (onTransparent z (readOddOn img offset (g .ne))) img s (dataOf c odd) other =
+    step-accepted img s c odd other b
+    ∙ ap (λ (q : Action). done q img s (dataOf c odd) other) (odd-decided img s c odd g t offset y)
+    ∙ ap (λ (q : ResolvedTransparent). done (onTransparent q (readOddOn img offset (g .ne))) img s (dataOf c odd) other) (resolved img s t _ (odd-named img s c odd g t offset y)) in
+    let k = subst (TransparentOk img s) (resolved img s t (readNamed f) (even-named img s ch even f t offset x .0)) (resolveTransparent-wellFormed img s (readNamed f)) in
+    rw (o, p) (onward img s offset (f .ne) (g .ne) (dataOf ch even) (dataOf c odd) buf other (accepted-room img s ch buf a) (accepted-room img s c other b) z k)
 
 pub odd-reaches : Odd-reaches
-odd-reaches img s cmd buf f t offset v r there right =
-    let a = taken-accepted img s cmd buf v in
-    let i : Inspected img s (idOrCurrent (p1p2 f)) (TransparentFile t) = record { meant = odd-named img s cmd f t offset r; there = there; right = right } in
-    let o : step img s cmd buf ≡ done (readOddOn img offset (f .ne) t) img s (dataOf cmd) buf =
-    step-accepted img s cmd buf a
-    ∙ ap (λ (q : Action). done q img s (dataOf cmd) buf) (odd-decided img s cmd f t offset r)
-    ∙ ap (λ (q : ResolvedTransparent). done (onTransparent q (readOddOn img offset (f .ne))) img s (dataOf cmd) buf) (inspected-resolved img s (accepted-facts img s (length buf) a .0) t _ i) in
-    rw o (answered img s t offset (f .ne) (dataOf cmd) buf)
+odd-reaches img s ch cmd buf f t offset v r there right =
+    let a = taken-accepted img s ch cmd buf v in
+    let i : Inspected img s (idOrCurrent (p1p2 f)) (TransparentFile t) = record { meant = odd-named img s ch cmd f t offset r; there = there; right = right } in
+    let o : step img s ch cmd buf ≡ done (readOddOn img offset (f .ne) t) img s (dataOf ch cmd) buf =
+    step-accepted img s ch cmd buf a
+    ∙ ap (λ (q : Action). done q img s (dataOf ch cmd) buf) (odd-decided img s ch cmd f t offset r)
+    ∙ ap (λ (q : ResolvedTransparent). done (onTransparent q (readOddOn img offset (f .ne))) img s (dataOf ch cmd) buf) (inspected-resolved img s (accepted-facts img s ch (length buf) a .0) t _ i) in
+    rw o (answered img s t offset (f .ne) (dataOf ch cmd) buf)

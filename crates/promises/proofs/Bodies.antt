@@ -22,14 +22,16 @@ use Rattle.machine_session.specs.declared.Session.{Session}
 use Rattle.machine_session.specs.declared.Verdict.{Verdict}
 use Rattle.machine_session.specs.declared.Verdict.the-variants.{Accepted, Refused as NotTaken}
 use Rattle.machine_record.specs.SearchRecord.{searchStatus}
+use Rattle.machine_chain.specs.Chain.{Chain}
 use Rattle.machine_dispatch.specs.Decide.{decide, dataOf}
 use Rattle.machine_action.specs.declared.Action.{Action}
 use Rattle.machine_action.specs.declared.Action.the-variants.{Status, SelectApplication, SelectFile, ReadBinary, UpdateBinary, Activate, AppendRecord, ReadRecord, SearchRecord, Report, ReadBinaryOdd}
 use Rattle.machine_answer.specs.Outcome.{Outcome, says}
 use Rattle.machine.specs.Effects.{searched, done}
-use Rattle.machine.specs.Step.{verdictOn, stepBy, step}
+use Rattle.machine.specs.Step.{stepBy}
+use Rattle.machine.specs.Lent.{verdictLent, stepLent}
 use Rattle.machine_session_bytes.specs.Layout.{isSession, sessionIn}
-use Rattle.malquindo.specs.Face.{Called, malformed, called, foundResult, fileResult}
+use Rattle.malquindo.specs.Face.{chainPart, chainOfC, Called, malformed, called, foundResult, fileResult}
 use Rattle.promises.specs.Linked.{CCall, CommandC, afterCallC, afterC, additionsC, historyC}
 use Rattle.promises.specs.Bodies.{filePlaceIn, fileLengthIn, FileC, C-file, C-file-stays, lentBody}
 use Rattle.promises.proofs.Calling.{c-holds}
@@ -113,16 +115,16 @@ module _ (img : List ℕ) (s : Session) (buf : List ℕ) (k : ℕ) where
   done-find (Report f p2) d = refl
   done-find (ReadBinaryOdd t o n) d = refl
 
-  stepBy-find : (v : Verdict) (cmd : List ℕ) → find (stepBy v img s cmd buf .image) k ≡ find img k
+  stepBy-find : (v : Verdict) (ch : Chain) (cmd : List ℕ) → find (stepBy v img s ch cmd buf .image) k ≡ find img k
   unfolding stepBy
-  stepBy-find Accepted cmd = done-find (decide img s cmd) (dataOf cmd)
-  stepBy-find (NotTaken r) cmd = refl
+  stepBy-find Accepted ch cmd = done-find (decide img s ch cmd) (dataOf ch cmd)
+  stepBy-find (NotTaken r) ch cmd = refl
 
 called-find : (img ses cmd buf : List ℕ) (k : ℕ) → find (called img ses cmd buf .image) k ≡ find img k
-unfolding called malformed step
+unfolding called malformed stepLent
 called-find img ses cmd buf k =
     ifElse-ind (λ (c : Called). find (c .image) k ≡ find img k) (isSession ses)
-    (λ _. stepBy-find img (sessionIn ses) buf k (verdictOn img (sessionIn ses) (length buf)) cmd)
+    (λ _. stepBy-find img (sessionIn ses) buf k (verdictLent img (sessionIn ses) (chainPart ses) (length buf)) (chainOfC ses) cmd)
     (λ _. refl)
 
 pub c-file-stays : C-file-stays

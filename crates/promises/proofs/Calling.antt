@@ -5,31 +5,29 @@ use mathlib.Core.Bool.{Bool, true, false}
 use mathlib.Core.Logic.{⊎-elim}
 use mathlib.Core.List.{List, [], _∷_, _++_, List·Memᴰ, List·Memᴰ·head, List·Memᴰ·tail, List·Memᴰ·not-nil, List·Memᴰ·cases-cons}
 use native.Mathlib.Omega.{arith}
-use lib.ListN.{length, take, drop, length-append}
+use lib.ListN.{length, take, drop, length-append, length-drop, take-append-drop}
+use lib.Seq.{drop-drop, take-at}
 use lib.Dec.{eqb, ltb}
-use borrow.Author.Tests.{eqb-true, eq-eqb, ne-eqb}
+use borrow.Author.Tests.{eq-eqb, ne-eqb, le-leb, lt-leb}
 use Rattle.base.specs.Choice.{ifElse, allOf}
-use Rattle.base.specs.Bytes.{put, putFits, AllBytes}
+use Rattle.base.specs.Bytes.{AllBytes}
 use Rattle.base.proofs.Cases.{by-cases, ifElse-ind}
-use Rattle.base.proofs.Runs.{length-put, put-refused, putFits-accepted, putFits-refused}
 use Rattle.store_records.specs.Body.{nth}
 use Rattle.store_image.specs.Image.{has, wellFormed, recordsOf}
-use Rattle.machine_rights.proofs.Laws.{effective-length}
-use Rattle.machine_session.specs.Session.{opened}
 use Rattle.machine_session.specs.Verdict.{refusalNumber, verdictNumber, verdict, openVerdict}
+use Rattle.machine_session.specs.declared.Refusal.{Refusal}
 use Rattle.machine_session.specs.declared.Refusal.the-variants.{ShortBuffer, BadImage, BadRights, BadSession}
 use Rattle.machine_session.specs.declared.Verdict.{Verdict}
 use Rattle.machine_session.specs.declared.Verdict.the-variants.{Accepted, Refused}
-use Rattle.machine_session.specs.declared.Place.{Place}
-use Rattle.machine_session.specs.declared.Place.the-variants.{Nowhere, OnFile, OnRecord}
 use Rattle.machine_session.specs.declared.Session.{Session}
 use Rattle.machine_apdu.specs.Shape.{shapeOf}
+use Rattle.machine_chain.specs.Chain.{Chain}
 use Rattle.machine_answer.specs.Outcome.{Outcome}
 use Rattle.machine.specs.Step.{step, opening}
 use Rattle.machine_cut.specs.Cutting.{cut}
 use Rattle.machine_cut.proofs.Cutting.{cut-stores-small}
-use Rattle.machine_session_bytes.specs.Layout.{placeBytes, sessionBytes, isSession, sessionIn}
-use Rattle.malquindo.specs.Face.{resultOf, openingVerdict, openResult, openSession, sessionAfter, Called, malformed, called, cutResult, calledCut, moveResult}
+use Rattle.machine_session_bytes.specs.Layout.{sessionIn}
+use Rattle.malquindo.specs.Face.{resultOf, openingVerdict, takesSession, openedIn, openResult, openSession, chainPart, isSessionC, chainOfC, Called, malformed, called, cutResult, CalledCut, calledCut, moveResult}
 use Rattle.store_move.specs.Moving.{moveRefusalNumber, moveCard, moveCardInto, Numbered}
 use Rattle.store_move.specs.declared.Moved.{Moved}
 use Rattle.store_move.specs.declared.Moved.the-variants.{Image, Refused as MoveRefused}
@@ -38,12 +36,12 @@ use Rattle.promises.specs.Calls.{Call, Open, Command, Move, Cut, imageAf
 use Rattle.promises.specs.Promises.{Whole, Kept, Answered, Reads, Names, MovedCard}
 use Rattle.promises.specs.Cuts.{C-cuts}
 use Rattle.promises.specs.Linked.{refusalIn, lengthIn, statusIn, movedIn, verdictBy, seen, CCall, OpenC, CommandC, MoveC, CutC, cutStoresIn, imageAfterMoveC, afterCallC, afterC, addedC, additionsC, historyC, C-sees, MalformedC, C-malformed, KeptC, C-says-no, C-gets-word, C-holds, C-number-kept, C-reads-history, C-leaves-none-out, C-opens, MovedC, C-moves}
-use Rattle.promises.proofs.Keeping.{put-rest, step-kept}
+use Rattle.promises.proofs.Keeping.{step-kept}
 use Rattle.promises.proofs.Saying.{gets-word, step-status}
 use Rattle.promises.proofs.Growing.{refused-none, calls-held, number-kept}
 use Rattle.promises.proofs.Reading.{reads-history}
 use Rattle.promises.proofs.Searching.{leaves-none-out}
-use Rattle.promises.proofs.Linking.{storable, called-session, called-malformed, session-bytes, opening-bytes, result-whole}
+use Rattle.promises.proofs.Linking.{step-verdict, session-long, called-session, called-malformed, cut-session, cut-malformed, chainLeft, Left, session-left, left-chain, back-left, back-refused, back-none, session-bytes, opening-bytes, chain-bytes, result-whole}
 use Rattle.promises.proofs.Moving.{move-done}
 use Rattle.store_move_laws.proofs.Laws.{refused-target}
 
@@ -86,23 +84,23 @@ c-malformed img ses cmd buf n =
 
 -- ---- bytes that are a session
 
-module _ (img ses cmd buf : List ℕ) (y : isSession ses ≡ true) where
+module _ (img ses cmd buf : List ℕ) (y : isSessionC ses ≡ true) where
   -- the status needs no bound on the command's bytes
-  status-seen : statusIn (called img ses cmd buf .result) ≡ step img (sessionIn ses) cmd buf .answer .status
+  status-seen : statusIn (called img ses cmd buf .result) ≡ step img (sessionIn ses) (chainOfC ses) cmd buf .answer .status
   status-seen =
       let e = ap (λ (c : Called). statusIn (c .result)) (called-session img ses cmd buf y) in
-      let h = step-status img (sessionIn ses) cmd buf in
+      let h = step-status img (sessionIn ses) (chainOfC ses) cmd buf in
       e ∙ (unfold resultOf statusIn in omega (arith, h))
 
-  module _ (b : AllBytes cmd) where
-    whole : Whole (called img ses cmd buf .result) (step img (sessionIn ses) cmd buf .answer)
-    whole = result-whole img ses cmd buf b y
+  module _ (bs : AllBytes ses) (b : AllBytes cmd) where
+    whole : Whole (called img ses cmd buf .result) (step img (sessionIn ses) (chainOfC ses) cmd buf .answer)
+    whole = result-whole img ses cmd buf bs b y
 
-    refusal-seen : refusalIn (called img ses cmd buf .result) ≡ verdictNumber (step img (sessionIn ses) cmd buf .answer .verdict)
+    refusal-seen : refusalIn (called img ses cmd buf .result) ≡ verdictNumber (step img (sessionIn ses) (chainOfC ses) cmd buf .answer .verdict)
     unfolding refusalIn
     refusal-seen = omega (arith, whole .sum, whole .length-small, whole .status-small)
 
-    length-seen : lengthIn (called img ses cmd buf .result) ≡ step img (sessionIn ses) cmd buf .answer .length
+    length-seen : lengthIn (called img ses cmd buf .result) ≡ step img (sessionIn ses) (chainOfC ses) cmd buf .answer .length
     unfolding lengthIn
     length-seen = omega (arith, whole .sum, whole .length-small, whole .status-small)
 
@@ -113,116 +111,143 @@ unfolding seen
 seen-is c o e l w t i b = λ j. record { answer = record { verdict = e j; length = l j; status = w j; session = t j }; image = i j; buffer = b j }
 
 pub c-sees : C-sees
-c-sees img ses cmd buf b y =
-    let o = step img (sessionIn ses) cmd buf in
+c-sees img ses cmd buf bs b y =
+    let o = step img (sessionIn ses) (chainOfC ses) cmd buf in
     seen-is (called img ses cmd buf) o
-    (ap verdictBy (refusal-seen img ses cmd buf y b) ∙ verdict-back (o .answer .verdict))
-    (length-seen img ses cmd buf y b)
+    (ap verdictBy (refusal-seen img ses cmd buf y bs b) ∙ verdict-back (o .answer .verdict))
+    (length-seen img ses cmd buf y bs b)
     (status-seen img ses cmd buf y)
-    (session-bytes img ses cmd buf y .1)
+    (session-bytes img ses cmd buf bs b y .session)
     (ap (λ (c : Called). c .image) (called-session img ses cmd buf y))
     (ap (λ (c : Called). c .response) (called-session img ses cmd buf y))
 
--- ---- a session's bytes
-
-place-size : (a : ℕ) (p : Place) → length (placeBytes a p) ≡ 5
-unfolding placeBytes
-place-size a Nowhere = refl
-place-size a (OnFile i) = refl
-place-size a (OnRecord i n) = refl
-
-session-size : (s : Session) → length (s .rights .biometrics) ≡ 17 → length (sessionBytes s) ≡ 25
-unfolding sessionBytes
-session-size s e =
-    let a = s .rights .biometrics in
-    let b = placeBytes (s .application) (s .place) in
-    omega (
-      arith,
-      e,
-      place-size (s .application) (s .place),
-      length-append a b,
-      length-append (s .rights .flags ∷ s .rights .travel ∷ s .rights .visa ∷ []) (a ++ b),
-    )
-
 -- ---- 1
 
+-- a number above 0 is that of a refusal
+some-refused : (v : Verdict) → 1 ≤ verdictNumber v → (r : Refusal) × (v ≡ Refused r)
+unfolding verdictNumber
+some-refused Accepted h = absurd (omega arith)
+some-refused (Refused r) h = (r, refl)
+
 -- for a session
-session-says-no : (img ses cmd buf : List ℕ) → AllBytes cmd → isSession ses ≡ true → KeptC img ses buf (called img ses cmd buf)
-session-says-no img ses cmd buf b y =
-    let o = step img (sessionIn ses) cmd buf in
-    let a = o .answer in
-    let w = status-seen img ses cmd buf y in
-    let e : called img ses cmd buf .session ≡ sessionAfter ses (a .status) (a .session) = ap (λ (c : Called). c .session) (called-session img ses cmd buf y) in
-    record {
-      kept = subst (Kept img (sessionIn ses) buf) (sym (c-sees img ses cmd buf b y)) (step-kept img (sessionIn ses) cmd buf);
-      session-kept = λ n. e ∙ (unfold sessionAfter in ap (λ (x : Bool). ifElse x (put ses 0 (sessionBytes (a .session))) ses) (ne-eqb (a .status) 0x9000 (λ z. n (w ∙ z))));
-      session-rest-kept = ap (drop 25) e ∙ (unfold sessionAfter in by-cases (eqb (a .status) 0x9000)
-          (λ t. let l = session-size (a .session) (storable img ses cmd buf (eqb-true _ _ t) .biometrics) in
-          simp t (subst (λ (n : ℕ). drop n (put ses 0 (sessionBytes (a .session))) ≡ drop n ses) l (put-rest ses (sessionBytes (a .session)))))
-          (λ n. simp n));
-      session-size-kept = ap length e ∙ (unfold sessionAfter in
-          ifElse-ind (λ (l : List ℕ). length l ≡ length ses) (eqb (a .status) 0x9000) (λ t. length-put ses 0 (sessionBytes (a .session))) (λ t. refl));
-    }
+module _ (img ses cmd buf : List ℕ) (bs : AllBytes ses) (b : AllBytes cmd) (y : isSessionC ses ≡ true) where
+  abbrev s : Session
+  s = sessionIn ses
+
+  abbrev ch : Chain
+  ch = chainOfC ses
+
+  abbrev o : Outcome
+  o = step img s ch cmd buf
+
+  abbrev new : List ℕ
+  new = called img ses cmd buf .session
+
+  left : Left img ses cmd buf new
+  left = session-left img ses cmd buf y
+
+  -- without 9000 the first 25 bytes stay, and all of them where those of the chain do
+  front-stays : (statusIn (called img ses cmd buf .result) ≡ 0x9000 → ⊥) → left .front ≡ take 25 ses
+  front-stays n = left .front-kept (λ z. n (status-seen img ses cmd buf y ∙ z))
+
+  all-stay : (statusIn (called img ses cmd buf .result) ≡ 0x9000 → ⊥) → chainLeft img ses cmd (length buf) ≡ chainPart ses → new ≡ ses
+  all-stay n e = left .whole ∙ ap₂ (λ (l m : List ℕ). l ++ m) (front-stays n) e ∙ take-append-drop 25 ses
+
+  refused-stay : 1 ≤ refusalIn (called img ses cmd buf .result) → new ≡ ses
+  refused-stay h =
+      let v : 1 ≤ verdictNumber (o .answer .verdict) = subst (λ (k : ℕ). 1 ≤ k) (refusal-seen img ses cmd buf y bs b) h in
+      let z = step-kept img s ch cmd buf .refused v .1 in
+      let r = some-refused (o .answer .verdict) v in
+      all-stay (λ w. absurd (omega (arith, w, status-seen img ses cmd buf y, z)))
+      (back-refused img ses cmd buf y (r .0) (sym (step-verdict img s buf ch cmd) ∙ r .1))
+
+  rest-stays : drop 1054 new ≡ drop 1054 ses
+  rest-stays =
+      sym (drop-drop 1029 25 new) ∙ ap (drop 1029) (left-chain img ses cmd buf y) ∙ back-left img ses cmd buf y b .rest ∙ drop-drop 1029 25 ses
+
+  size-stays : length new ≡ length ses
+  size-stays =
+      let m = length-append (left .front) (chainLeft img ses cmd (length buf)) in
+      let k = back-left img ses cmd buf y b .size in
+      let l = session-long ses y in
+      ap length (left .whole) ∙ omega (arith, m, k, l, left .front-long, length-drop 25 ses)
+
+  session-says-no : KeptC img ses buf (called img ses cmd buf)
+  session-says-no =
+      record {
+        kept = subst (λ (u : Outcome). Kept img s ch buf u (chainOfC new)) (sym (c-sees img ses cmd buf bs b y))
+            (subst (Kept img s ch buf o) (sym (session-bytes img ses cmd buf bs b y .chain)) (step-kept img s ch cmd buf));
+        session-kept = λ n. ap (take 25) (left .whole) ∙ take-at (left .front) (chainLeft img ses cmd (length buf)) 25 (left .front-long) ∙ front-stays n;
+        refused-kept = refused-stay;
+        no-chain-kept = λ e n. all-stay n (back-none img ses cmd buf y e (λ z. n (status-seen img ses cmd buf y ∙ z)));
+        session-rest-kept = rest-stays;
+        session-size-kept = size-stays;
+      }
 
 -- 1, 2 and 4 are numbers of a command's refusals
 among-numbers : (n : ℕ) → List·Memᴰ n (1 ∷ 2 ∷ 4 ∷ []) → List·Memᴰ n (0 ∷ 1 ∷ 2 ∷ 4 ∷ [])
 among-numbers n m = List·Memᴰ·tail m
 
+-- and none of them is 0
+some-number : (k : ℕ) → List·Memᴰ k (1 ∷ 2 ∷ 4 ∷ []) → k ≡ 0 → ⊥
+some-number k m z =
+    ⊎-elim (λ e. omega (arith, e, z)) (λ m.
+    ⊎-elim (λ e. omega (arith, e, z)) (λ m.
+    ⊎-elim (λ e. omega (arith, e, z)) (λ m. List·Memᴰ·not-nil m)
+    (List·Memᴰ·cases-cons m)) (List·Memᴰ·cases-cons m)) (List·Memᴰ·cases-cons m)
+
 -- what a caller sees of them
-malformed-kept : (img ses buf : List ℕ) → Kept img (sessionIn ses) buf (seen (malformed img ses buf))
+malformed-kept : (img ses buf : List ℕ) → Kept img (sessionIn ses) (chainOfC ses) buf (seen (malformed img ses buf)) (chainOfC ses)
 unfolding seen malformed
 malformed-kept img ses buf =
     let v = verdict img false (length buf) in
     let r = refused-result v in
     let e : verdictBy (refusalIn (resultOf v 0 0)) ≡ v = ap verdictBy (r .0) ∙ verdict-back v in
+    let m = number-refused img (length buf) in
     record {
       image-kept = λ _. refl;
       session-kept = λ _. refl;
+      chain-dropped = λ z. absurd (some-number (verdictNumber v) m (sym (ap verdictNumber e) ∙ z));
+      chain-kept = λ z _. z;
       rest-kept = refl;
       size-kept = refl;
-      number = subst (λ (x : Verdict). List·Memᴰ (verdictNumber x) (0 ∷ 1 ∷ 2 ∷ 4 ∷ [])) (sym e) (among-numbers _ (number-refused img (length buf)));
-      refused = λ _. (r .1, r .2, refl, refl, refl);
+      number = subst (λ (x : Verdict). List·Memᴰ (verdictNumber x) (0 ∷ 1 ∷ 2 ∷ 4 ∷ [])) (sym e) (among-numbers _ m);
+      refused = λ _. (r .1, r .2, refl, refl, refl, refl);
     }
 
 -- for bytes that are none
-malformed-says-no : (img ses cmd buf : List ℕ) → isSession ses ≡ false → KeptC img ses buf (called img ses cmd buf)
+malformed-says-no : (img ses cmd buf : List ℕ) → isSessionC ses ≡ false → KeptC img ses buf (called img ses cmd buf)
 malformed-says-no img ses cmd buf n =
     subst (KeptC img ses buf) (sym (called-malformed img ses cmd buf n))
     (unfold malformed in
     record {
       kept = malformed-kept img ses buf;
       session-kept = λ _. refl;
+      refused-kept = λ _. refl;
+      no-chain-kept = λ _ _. refl;
       session-rest-kept = refl;
       session-size-kept = refl;
     })
 
 pub c-says-no : C-says-no
-c-says-no img ses cmd buf b =
-    by-cases (isSession ses) (λ y. session-says-no img ses cmd buf b y) (λ n. malformed-says-no img ses cmd buf n)
+c-says-no img ses cmd buf bs b =
+    by-cases (isSessionC ses) (λ y. session-says-no img ses cmd buf bs b y) (λ n. malformed-says-no img ses cmd buf n)
 
 -- bytes that are no session are refused
-accepted-session : (img ses cmd buf : List ℕ) → refusalIn (called img ses cmd buf .result) ≡ 0 → isSession ses ≡ true
+accepted-session : (img ses cmd buf : List ℕ) → refusalIn (called img ses cmd buf .result) ≡ 0 → isSessionC ses ≡ true
 accepted-session img ses cmd buf e =
-    by-cases (isSession ses)
-    (λ y. y)
-    (λ n. absurd (some _ (c-malformed img ses cmd buf n .number) e))
-  where
-    some : (k : ℕ) → List·Memᴰ k (1 ∷ 2 ∷ 4 ∷ []) → k ≡ 0 → ⊥
-    some k m z =
-        ⊎-elim (λ e. omega (arith, e, z)) (λ m.
-        ⊎-elim (λ e. omega (arith, e, z)) (λ m.
-        ⊎-elim (λ e. omega (arith, e, z)) (λ m. List·Memᴰ·not-nil m)
-        (List·Memᴰ·cases-cons m)) (List·Memᴰ·cases-cons m)) (List·Memᴰ·cases-cons m)
+    by-cases (isSessionC ses) (λ y. y) (λ n. absurd (some-number _ (c-malformed img ses cmd buf n .number) e))
 
 pub c-gets-word : C-gets-word
-c-gets-word img ses cmd buf b e =
+c-gets-word img ses cmd buf bs b e =
     let y = accepted-session img ses cmd buf e in
-    subst Answered (sym (c-sees img ses cmd buf b y)) (gets-word img (sessionIn ses) cmd buf b (sym (refusal-seen img ses cmd buf y b) ∙ e))
+    subst Answered (sym (c-sees img ses cmd buf bs b y))
+    (gets-word img (sessionIn ses) (chainOfC ses) cmd buf (chain-bytes ses bs) b (sym (refusal-seen img ses cmd buf y bs b) ∙ e))
 
 -- and have status 0
-done-session : (img ses cmd buf : List ℕ) → statusIn (called img ses cmd buf .result) ≡ 0x9000 → isSession ses ≡ true
+done-session : (img ses cmd buf : List ℕ) → statusIn (called img ses cmd buf .result) ≡ 0x9000 → isSessionC ses ≡ true
 done-session img ses cmd buf e =
-    by-cases (isSession ses)
+    by-cases (isSessionC ses)
     (λ y. y)
     (λ n. absurd (omega (arith, c-malformed img ses cmd buf n .nothing .1, e)))
 
@@ -270,9 +295,9 @@ c-moves old list t = go (moveCard old list (length t)) refl (moveCard-numbered o
 -- a command with bytes that are no session does what an opening does: nothing to the image
 meaning : CCall → Call
 meaning (OpenC rights ses) = Open rights
-meaning (CommandC ses cmd buf) = ifElse (isSession ses) (Command (sessionIn ses) cmd buf) (Open [])
+meaning (CommandC ses cmd buf) = ifElse (isSessionC ses) (Command (sessionIn ses) (chainOfC ses) cmd buf) (Open [])
 meaning (MoveC list t) = Move list t
-meaning (CutC ses cmd n) = ifElse (isSession ses) (Cut (sessionIn ses) cmd n) (Open [])
+meaning (CutC ses cmd n) = ifElse (isSessionC ses) (Cut (sessionIn ses) (chainOfC ses) cmd n) (Open [])
 
 meanings : List CCall → List Call
 meanings [] = []
@@ -293,55 +318,61 @@ imageAfterMove-same (MoveRefused w) t img h =
 
 -- a cut in the session that the bytes are, and where they are none
 module _ (img ses cmd : List ℕ) (n : ℕ) where
-  pub cut-image : isSession ses ≡ true → calledCut img ses cmd n .image ≡ cut img (sessionIn ses) cmd n .image
-  unfolding calledCut
-  cut-image y = simp y
+  pub cut-image : isSessionC ses ≡ true → calledCut img ses cmd n .image ≡ cut img (sessionIn ses) (chainOfC ses) cmd n .image
+  cut-image y = ap (λ (c : CalledCut). c .image) (cut-session img ses cmd n y)
 
-  pub cut-image-kept : isSession ses ≡ false → calledCut img ses cmd n .image ≡ img
-  unfolding calledCut
-  cut-image-kept e = simp e
+  pub cut-image-kept : isSessionC ses ≡ false → calledCut img ses cmd n .image ≡ img
+  cut-image-kept e = ap (λ (c : CalledCut). c .image) (cut-malformed img ses cmd n e)
 
   -- the result tells how many stores there are
-  pub cut-told : isSession ses ≡ true → cutStoresIn (calledCut img ses cmd n .result) ≡ cut img (sessionIn ses) cmd n .answer .stores
-  unfolding calledCut cutStoresIn cutResult
-  cut-told y = simp y (let l = cut-stores-small img (sessionIn ses) cmd n in omega (arith, l))
+  pub cut-told : isSessionC ses ≡ true → cutStoresIn (calledCut img ses cmd n .result) ≡ cut img (sessionIn ses) (chainOfC ses) cmd n .answer .stores
+  unfolding cutStoresIn cutResult
+  cut-told y =
+      let l = cut-stores-small img (sessionIn ses) (chainOfC ses) cmd n in
+      ap (λ (c : CalledCut). cutStoresIn (c .result)) (cut-session img ses cmd n y) ∙ omega (arith, l)
 
-  pub cut-told-none : isSession ses ≡ false → cutStoresIn (calledCut img ses cmd n .result) ≡ 0
-  unfolding calledCut cutStoresIn cutResult
-  cut-told-none e = simp e (omega arith)
+  pub cut-told-none : isSessionC ses ≡ false → cutStoresIn (calledCut img ses cmd n .result) ≡ 0
+  unfolding cutStoresIn cutResult
+  cut-told-none e = ap (λ (c : CalledCut). cutStoresIn (c .result)) (cut-malformed img ses cmd n e) ∙ omega arith
 
 pub c-cuts : C-cuts
-unfolding calledCut cutResult refusalIn verdict verdictNumber refusalNumber
+unfolding cutResult refusalIn verdict verdictNumber refusalNumber
 c-cuts img ses cmd n =
     record {
-      refusal = λ y. simp y (omega arith);
+      refusal = λ y. ap (λ (c : CalledCut). refusalIn (c .result)) (cut-session img ses cmd n y) ∙ omega arith;
       stores = cut-told img ses cmd n;
       image = cut-image img ses cmd n;
-      malformed = λ e. (simp e (by-cases (wellFormed img) (λ w. simp w) (λ w. simp w)), cut-image-kept img ses cmd n e);
+      malformed = λ e. (
+        ap (λ (c : CalledCut). c .result) (cut-malformed img ses cmd n e) ∙ by-cases (wellFormed img) (λ w. simp w) (λ w. simp w),
+        cut-image-kept img ses cmd n e,
+      );
     }
 
 afterCall-same : (img : List ℕ) (c : CCall) → afterCallC img c ≡ afterCall img (meaning c)
 unfolding afterCallC afterCall meaning
 afterCall-same img (OpenC rights ses) = refl
 afterCall-same img (CommandC ses cmd buf) =
-    by-cases (isSession ses)
+    by-cases (isSessionC ses)
     (λ y. simp y (ap (λ (c : Called). c .image) (called-session img ses cmd buf y)))
     (λ n. simp n (c-malformed img ses cmd buf n .kept .0))
 afterCall-same img (MoveC list t) = imageAfterMove-same (moveCard img list (length t)) (moveCardInto img list t) img (moveCard-numbered img list (length t))
-afterCall-same img (CutC ses cmd n) = by-cases (isSession ses) (λ y. simp y (cut-image img ses cmd n y)) (λ e. simp e (cut-image-kept img ses cmd n e))
+afterCall-same img (CutC ses cmd n) = by-cases (isSessionC ses) (λ y. simp y (cut-image img ses cmd n y)) (λ e. simp e (cut-image-kept img ses cmd n e))
 
 added-same : (k : ℕ) (img : List ℕ) (c : CCall) → addedC k img c ≡ added k img (meaning c)
 unfolding addedC added meaning allOf
 added-same k img (OpenC rights ses) = refl
 added-same k img (CommandC ses cmd buf) =
-    by-cases (isSession ses)
-    (λ y. simp y (ap (λ (w : ℕ). addedBy k (sessionIn ses) cmd w (shapeOf cmd)) (status-seen img ses cmd buf y)))
-    (λ n. simp n (ap (λ (w : ℕ). addedBy k (sessionIn ses) cmd w (shapeOf cmd)) (c-malformed img ses cmd buf n .nothing .1) ∙ refused-none img (sessionIn ses) cmd (shapeOf cmd) k))
+    by-cases (isSessionC ses)
+    (λ y. simp y (ap (λ (w : ℕ). addedBy k (sessionIn ses) (chainOfC ses) cmd w (shapeOf cmd)) (status-seen img ses cmd buf y)))
+    (λ n.
+    simp n
+    (ap (λ (w : ℕ). addedBy k (sessionIn ses) (chainOfC ses) cmd w (shapeOf cmd)) (c-malformed img ses cmd buf n .nothing .1)
+    ∙ refused-none img (sessionIn ses) (chainOfC ses) cmd (shapeOf cmd) k))
 added-same k img (MoveC list t) = refl
 added-same k img (CutC ses cmd n) =
-    by-cases (isSession ses)
-    (λ y. simp y (ap (λ (m : ℕ). addedByCut k (sessionIn ses) cmd m n) (cut-told img ses cmd n y)))
-    (λ e. simp e (ap (λ (m : ℕ). addedByCut k (sessionIn ses) cmd m n) (cut-told-none img ses cmd n e)))
+    by-cases (isSessionC ses)
+    (λ y. simp y (ap (λ (m : ℕ). addedByCut k (sessionIn ses) (chainOfC ses) cmd m n) (cut-told img ses cmd n y)))
+    (λ e. simp e (ap (λ (m : ℕ). addedByCut k (sessionIn ses) (chainOfC ses) cmd m n) (cut-told-none img ses cmd n e)))
 
 after-same : (img : List ℕ) (cs : List CCall) → afterC img cs ≡ after img (meanings cs)
 unfolding afterC after meanings
@@ -379,69 +410,71 @@ c-number-kept img cs ds k n o b h =
 
 -- ---- 3. a command after calls, read from what the caller has
 
-module _ (img : List ℕ) (cs : List CCall) (ses cmd buf : List ℕ) (b : AllBytes cmd) (y : isSession ses ≡ true) where
+module _ (img : List ℕ) (cs : List CCall) (ses cmd buf : List ℕ) (bs : AllBytes ses) (b : AllBytes cmd) (y : isSessionC ses ≡ true) where
   abbrev then-seen : Outcome
   then-seen = seen (called (afterC img cs) ses cmd buf)
 
-  seen-same : step (after img (meanings cs)) (sessionIn ses) cmd buf ≡ then-seen
-  seen-same = ap (λ (l : List ℕ). step l (sessionIn ses) cmd buf) (sym (after-same img cs)) ∙ sym (c-sees (afterC img cs) ses cmd buf b y)
+  seen-same : step (after img (meanings cs)) (sessionIn ses) (chainOfC ses) cmd buf ≡ then-seen
+  seen-same = ap (λ (l : List ℕ). step l (sessionIn ses) (chainOfC ses) cmd buf) (sym (after-same img cs)) ∙ sym (c-sees (afterC img cs) ses cmd buf bs b y)
 
 pub c-reads-history : C-reads-history
-c-reads-history img cs ses cmd buf f o b e p w =
+c-reads-history img cs ses cmd buf f o bs b e p w =
     let s = sessionIn ses in
+    let ch = chainOfC ses in
     let a = after-same img cs in
     let old = after img (meanings cs) in
     let y = done-session (afterC img cs) ses cmd buf w in
-    let t : step old s cmd buf .answer .status ≡ 0x9000 = ap (λ (l : List ℕ). step l s cmd buf .answer .status) (sym a) ∙ sym (status-seen (afterC img cs) ses cmd buf y) ∙ w in
-    let h = reads-history img (meanings cs) s cmd buf f o e p t in
-    subst (Reads s f (λ k. historyC k img cs)) (seen-same img cs ses cmd buf b y)
-    (subst (λ (rs : ℕ → List (List ℕ)). Reads s f rs (step old s cmd buf)) (λ i k. sym (history-same k img cs) i) h)
+    let t : step old s ch cmd buf .answer .status ≡ 0x9000 = ap (λ (l : List ℕ). step l s ch cmd buf .answer .status) (sym a) ∙ sym (status-seen (afterC img cs) ses cmd buf y) ∙ w in
+    let h = reads-history img (meanings cs) s ch cmd buf f o e p t in
+    subst (Reads s f (λ k. historyC k img cs)) (seen-same img cs ses cmd buf bs b y)
+    (subst (λ (rs : ℕ → List (List ℕ)). Reads s f rs (step old s ch cmd buf)) (λ i k. sym (history-same k img cs) i) h)
 
 pub c-leaves-none-out : C-leaves-none-out
-c-leaves-none-out img cs ses cmd buf f x r o b t z =
+c-leaves-none-out img cs ses cmd buf f x r o bs b t z =
     let s = sessionIn ses in
+    let ch = chainOfC ses in
     let a = after-same img cs in
     let old = after img (meanings cs) in
     let y = accepted-session (afterC img cs) ses cmd buf t in
-    let u : verdictNumber (step old s cmd buf .answer .verdict) ≡ 0 = ap (λ (l : List ℕ). verdictNumber (step l s cmd buf .answer .verdict)) (sym a) ∙ sym (refusal-seen (afterC img cs) ses cmd buf y b) ∙ t in
-    let h = leaves-none-out img (meanings cs) s cmd buf f x r o u z in
-    subst (Names (historyC (r .kind) img cs) x (f .ne)) (seen-same img cs ses cmd buf b y)
-    (subst (λ (rs : List (List ℕ)). Names rs x (f .ne) (step (after img (meanings cs)) s cmd buf)) (sym (history-same (r .kind) img cs)) h)
+    let u : verdictNumber (step old s ch cmd buf .answer .verdict) ≡ 0 = ap (λ (l : List ℕ). verdictNumber (step l s ch cmd buf .answer .verdict)) (sym a) ∙ sym (refusal-seen (afterC img cs) ses cmd buf y bs b) ∙ t in
+    let h = leaves-none-out img (meanings cs) s ch cmd buf f x r o u z in
+    subst (Names (historyC (r .kind) img cs) x (f .ne)) (seen-same img cs ses cmd buf bs b y)
+    (subst (λ (rs : List (List ℕ)). Names rs x (f .ne) (step (after img (meanings cs)) s ch cmd buf)) (sym (history-same (r .kind) img cs)) h)
 
 -- ---- an opening
 
 module _ (rights ses : List ℕ) where
-  -- by whether there are 60 bytes of rights, and whether the session fits
+  -- by whether there are 60 bytes of rights, and whether the buffer takes a session
   abbrev opens-by : Bool → Bool → ℕ
   opens-by a b = resultOf (openingVerdict (ifElse a Accepted (Refused BadRights)) b) 0 0
 
-  result-by : openResult rights ses ≡ opens-by (eqb (length rights) 60) (putFits ses 0 (sessionBytes (opened rights)))
+  result-by : openResult rights ses ≡ opens-by (eqb (length rights) 60) (takesSession ses)
   unfolding openResult opening openVerdict
   result-by = refl
 
-  opened-size : length (sessionBytes (opened rights)) ≡ 25
-  opened-size = session-size (opened rights) (unfold opened in effective-length rights)
+  room : 1054 ≤ length ses → takesSession ses ≡ true
+  unfolding takesSession
+  room h = le-leb 1054 (length ses) h
 
-  room : 25 ≤ length ses → putFits ses 0 (sessionBytes (opened rights)) ≡ true
-  room h = putFits-accepted ses 0 (sessionBytes (opened rights)) (omega (arith, h, opened-size))
-
-  no-room : length ses < 25 → putFits ses 0 (sessionBytes (opened rights)) ≡ false
-  no-room h = putFits-refused ses 0 (sessionBytes (opened rights)) (omega (arith, h, opened-size))
+  no-room : length ses < 1054 → takesSession ses ≡ false
+  unfolding takesSession
+  no-room h = lt-leb 1054 (length ses) h
 
   refused-both : (b : Bool) → opens-by false b ≡ 3 * 4294967296
   unfolding resultOf verdictNumber refusalNumber
   refused-both b = refl
 
 pub c-opens : C-opens
-unfolding resultOf verdictNumber refusalNumber openSession opening
+unfolding resultOf verdictNumber refusalNumber openSession openedIn opening
 c-opens rights ses =
     record {
       taken = λ e h. (
         result-by rights ses ∙ ap₂ (opens-by rights ses) (eq-eqb _ _ e) (room rights ses h),
         opening-bytes rights ses h .0,
         opening-bytes rights ses h .1,
+        opening-bytes rights ses h .2,
       );
-      refused = λ n. result-by rights ses ∙ ap (λ (a : Bool). opens-by rights ses a (putFits ses 0 (sessionBytes (opened rights)))) (ne-eqb (length rights) 60 n) ∙ refused-both rights ses (putFits ses 0 (sessionBytes (opened rights)));
+      refused = λ n. result-by rights ses ∙ ap (λ (a : Bool). opens-by rights ses a (takesSession ses)) (ne-eqb (length rights) 60 n) ∙ refused-both rights ses (takesSession ses);
       short = λ e h. result-by rights ses ∙ ap₂ (opens-by rights ses) (eq-eqb _ _ e) (no-room rights ses h);
-      unwritten = λ h. put-refused ses 0 (sessionBytes (opened rights)) (omega (arith, h, opened-size rights ses));
+      unwritten = λ h. rw (no-room rights ses h) refl;
     }

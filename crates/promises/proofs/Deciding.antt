@@ -8,7 +8,8 @@ use mathlib.Core.List.{List, [], _∷_, _++_}
 use native.Mathlib.Omega.{arith}
 use lib.ListN.{length, length-append}
 use lib.Dec.{leb, eqb, lit≤}
-use borrow.Author.Tests.{eqb-true, le-leb}
+use borrow.Author.Tests.{eqb-true, le-leb, eq-eqb}
+use Rattle.machine_chain.specs.Chain.{Chain, NoChain, soFar}
 use Rattle.base.specs.Choice.{ifElse, allOf}
 use Rattle.base.specs.Bytes.{part, AllBytes}
 use Rattle.base.proofs.Cases.{by-cases, false-true, allOf-facts, allOf-accepted}
@@ -44,52 +45,36 @@ use Rattle.machine_binary.specs.ReadBinary.{readBinary}
 use Rattle.machine_binary.specs.ReadBinaryOdd.{readBinaryOdd}
 use Rattle.machine_record.specs.SearchRecord.{fileIn, searchNamed, searchOn, searchBy, searchRecord}
 use Rattle.machine_dispatch.specs.Decide.{byIns, byClass, byShape, decide, dataBy, dataOf}
-use Rattle.machine_dispatch.proofs.Allowing.{From, FromShape, decide-from, bytes-part}
+use Rattle.machine_dispatch.proofs.Allowing.{From, SearchBy}
 use Rattle.machine_answer.specs.Outcome.{Outcome, says}
 use Rattle.machine.specs.Effects.{done}
 use Rattle.machine.specs.Step.{verdictOn, stepBy, step}
-use Rattle.promises.specs.Calls.{isPair}
+use Rattle.machine_link.specs.Link.{isCommand}
+use Rattle.promises.specs.Calls.{isPair, wholeOf}
 use Rattle.promises.specs.Promises.{SearchCommand, Searching, Only-searches, Search-refused}
 use Rattle.promises.proofs.Answering.{step-accepted, accepted-facts, taken-accepted}
 use Rattle.promises.proofs.Naming.{record-meant, record-permitted, search-meant, meant-resolved}
-use Rattle.promises.proofs.Wording.{refusing-not, Worded, decide-word}
+use Rattle.promises.proofs.Wording.{refusing-not, Worded}
+use Rattle.promises.proofs.Whole.{pair-facts, data-length, data-bytes, class-decided, not-both, Way, stops, links, whole, way}
 
 -- ---- steps 1 to 3
 
--- CLA and INS
-pub pair-facts : (f : Frame) (c i : ℕ) → isPair f c i ≡ true → (f .header .cla ≡ c) × (f .header .ins ≡ i)
-unfolding isPair
-pair-facts f c i p = let h = allOf-facts (eqb (f .header .cla) c ∷ eqb (f .header .ins) i ∷ []) p in (eqb-true _ _ (h .0), eqb-true _ _ (h .1 .0))
-
-module _ (cmd : List ℕ) (f : Frame) (e : shapeOf cmd ≡ Good f) where
-  pub data-is : dataOf cmd ≡ part cmd (f .from) (f .lc)
-  data-is = unfold dataOf in ap (dataBy cmd) e
-
-  pub data-length : length (dataOf cmd) ≡ f .lc
-  data-length = ap length data-is ∙ length-part cmd (f .from) (f .lc) (shape-facts cmd (shapeOf cmd) f refl e .inside)
-
-  -- the data field of a command that is bytes is bytes
-  pub data-bytes : AllBytes cmd → AllBytes (dataOf cmd)
-  data-bytes b = subst AllBytes (sym data-is) (bytes-part cmd (f .from) (f .lc) b)
-
-  -- what a command comes to, by its CLA
-  pub class-decided : (img : List ℕ) (s : Session) → decide img s cmd ≡ byClass img s f (dataOf cmd)
-  unfolding decide
-  class-decided img s = ap (byShape img s cmd) e ∙ ap (byClass img s f) (sym data-is)
-
+module _ (ch : Chain) (cmd : List ℕ) (f : Frame) (e : wholeOf ch cmd ≡ Good f) where
   -- CLA 00 and INS B0, or B1, lead to READ BINARY
-  pub even-led : (img : List ℕ) (s : Session) → isPair f 0x00 0xB0 ≡ true → decide img s cmd ≡ readBinary img s f
-  unfolding byClass byIns
-  even-led img s p = let h = pair-facts f 0x00 0xB0 p in class-decided img s ∙ simp (h .0, h .1)
+  pub even-led : (img : List ℕ) (s : Session) → isPair f 0x00 0xB0 ≡ true → decide img s ch cmd ≡ readBinary img s f
+  unfolding byClass byIns isCommand
+  even-led img s p = let h = pair-facts f 0x00 0xB0 p in class-decided ch cmd f e 0x00 0xB0 p refl refl refl img s ∙ simp (h .0, h .1)
 
-  pub odd-led : (img : List ℕ) (s : Session) → isPair f 0x00 0xB1 ≡ true → decide img s cmd ≡ readBinaryOdd img s f (dataOf cmd)
-  unfolding byClass byIns
-  odd-led img s p = let h = pair-facts f 0x00 0xB1 p in class-decided img s ∙ simp (h .0, h .1)
+  pub odd-led : (img : List ℕ) (s : Session) → isPair f 0x00 0xB1 ≡ true → decide img s ch cmd ≡ readBinaryOdd img s f (dataOf ch cmd)
+  unfolding byClass byIns isCommand
+  odd-led img s p = let h = pair-facts f 0x00 0xB1 p in class-decided ch cmd f e 0x00 0xB1 p refl refl refl img s ∙ simp (h .0, h .1)
 
   -- CLA 00 and INS A2 lead to SEARCH RECORD
-  led : (img : List ℕ) (s : Session) → f .header .cla ≡ 0x00 → f .header .ins ≡ 0xA2 → decide img s cmd ≡ searchRecord img s f (dataOf cmd)
-  unfolding decide byClass byIns
-  led img s c i = ap (byShape img s cmd) e ∙ simp (c, i, data-is)
+  led : (img : List ℕ) (s : Session) → f .header .cla ≡ 0x00 → f .header .ins ≡ 0xA2 → decide img s ch cmd ≡ searchRecord img s f (dataOf ch cmd)
+  unfolding byClass byIns isCommand isPair
+  led img s c i =
+      class-decided ch cmd f e 0x00 0xA2 (allOf-accepted (eqb (f .header .cla) 0x00 ∷ eqb (f .header .ins) 0xA2 ∷ []) (eq-eqb _ _ c, (eq-eqb _ _ i, tt))) refl refl refl img s
+      ∙ simp (c, i)
 
 -- ---- the tests of SEARCH RECORD
 
@@ -130,27 +115,27 @@ some-data x z =
     omega (arith, length-tlv 0x81 (x .text), length-tlv 0xB1 a, length-tlv 0xA3 b, length-append d (tlv 0xA3 b), length-tlv 0x7F76 (d ++ tlv 0xA3 b))
 
 -- steps 7 to 9 answer the file of a search
-pub searching-resolved : (img : List ℕ) (s : Session) (cmd buf : List ℕ) (f : Frame) (x : SearchFields) (r : Rule)
-    → verdictOn img s (length buf) ≡ Accepted
-    → Searching s cmd f x r
+pub searching-resolved : (img : List ℕ) (s : Session) (ch : Chain) (cmd buf : List ℕ) (f : Frame) (x : SearchFields) (r : Rule)
+    → verdictOn img s ch (length buf) ≡ Accepted
+    → Searching s ch cmd f x r
     → resolveRecord img s Read (searchNamed (x .file)) ≡ RecordAt r
-searching-resolved img s cmd buf f x r a h =
-    meant-resolved s r (h .permitted .listed) img (accepted-facts img s (length buf) a .1) Read (h .permitted .right) (searchNamed (x .file))
+searching-resolved img s ch cmd buf f x r a h =
+    meant-resolved s r (h .permitted .listed) img (accepted-facts img s ch (length buf) a .1) Read (h .permitted .right) (searchNamed (x .file))
     (sym (search-meant s (x .file) (RecordFile r) (h .permitted .listed)) ∙ h .meant)
 
 -- a well-formed search comes to what steps 7 to 9 answer of its reference
-pub record Reached (img : List ℕ) (s : Session) (cmd : List ℕ) (f : Frame) (x : SearchFields) : Type 0 where
+pub record Reached (img : List ℕ) (s : Session) (ch : Chain) (cmd : List ℕ) (f : Frame) (x : SearchFields) : Type 0 where
   pub query : Search
-  pub decided : decide img s cmd ≡ onRecord (resolveRecord img s Read (searchNamed (x .file))) (searchOn query (f .ne))
-  pub searches : Searches (dataOf cmd) query x
+  pub decided : decide img s ch cmd ≡ onRecord (resolveRecord img s Read (searchNamed (x .file))) (searchOn query (f .ne))
+  pub searches : Searches (dataOf ch cmd) query x
 
-pub search-reached : (img : List ℕ) (s : Session) (cmd : List ℕ) (f : Frame) (x : SearchFields) → SearchCommand cmd f x → Reached img s cmd f x
-search-reached img s cmd f x c =
-    let d = dataOf cmd in
+pub search-reached : (img : List ℕ) (s : Session) (ch : Chain) (cmd : List ℕ) (f : Frame) (x : SearchFields) → SearchCommand ch cmd f x → Reached img s ch cmd f x
+search-reached img s ch cmd f x c =
+    let d = dataOf ch cmd in
     let k = search-complete x (c .sized) in
     let q = k .0 in
     let w : Searches d q x = subst (λ (l : List ℕ). Searches l q x) (sym (c .writes)) (k .2) in
-    let n = data-length cmd f (c .shape) in
+    let n = data-length ch cmd f (c .shape) in
     let m = ap length (c .writes) in
     let t : Tests f = record {
       p1 = ap (λ (y : Header). eqb (y .p1) 0) (c .header);
@@ -161,7 +146,7 @@ search-reached img s cmd f x c =
     record {
       query = q;
       decided =
-          led cmd f (c .shape) img s (ap (λ (y : Header). y .cla) (c .header)) (ap (λ (y : Header). y .ins) (c .header))
+          led ch cmd f (c .shape) img s (ap (λ (y : Header). y .cla) (c .header)) (ap (λ (y : Header). y .ins) (c .header))
           ∙ passed img s f d t
           ∙ ap (searchBy img s (f .ne) d) (ap readSearch (c .writes) ∙ k .1)
           ∙ ap (λ (v : List ℕ). onRecord (resolveRecord img s Read (searchNamed v)) (searchOn q (f .ne))) (w .file-placed .is);
@@ -169,84 +154,84 @@ search-reached img s cmd f x c =
     }
 
 -- and an accepted one has that outcome
-pub reached-outcome : (img : List ℕ) (s : Session) (cmd buf : List ℕ) (f : Frame) (x : SearchFields) (k : Reached img s cmd f x) (z : ResolvedRecord)
-    → verdictOn img s (length buf) ≡ Accepted
+pub reached-outcome : (img : List ℕ) (s : Session) (ch : Chain) (cmd buf : List ℕ) (f : Frame) (x : SearchFields) (k : Reached img s ch cmd f x) (z : ResolvedRecord)
+    → verdictOn img s ch (length buf) ≡ Accepted
     → resolveRecord img s Read (searchNamed (x .file)) ≡ z
-    → step img s cmd buf ≡ done (onRecord z (searchOn (k .query) (f .ne))) img s (dataOf cmd) buf
-reached-outcome img s cmd buf f x k z a e =
-    step-accepted img s cmd buf a
-    ∙ ap (λ (y : Action). done y img s (dataOf cmd) buf) (k .decided ∙ ap (λ (y : ResolvedRecord). onRecord y (searchOn (k .query) (f .ne))) e)
+    → step img s ch cmd buf ≡ done (onRecord z (searchOn (k .query) (f .ne))) img s (dataOf ch cmd) buf
+reached-outcome img s ch cmd buf f x k z a e =
+    step-accepted img s ch cmd buf a
+    ∙ ap (λ (y : Action). done y img s (dataOf ch cmd) buf) (k .decided ∙ ap (λ (y : ResolvedRecord). onRecord y (searchOn (k .query) (f .ne))) e)
 
-pub search-decided-sound : (img : List ℕ) (s : Session) (cmd : List ℕ) (r : Rule) (q : Search) (ne : ℕ)
+pub search-decided-sound : (img : List ℕ) (s : Session) (ch : Chain) (cmd : List ℕ) (r : Rule) (q : Search) (ne : ℕ)
+    → AllBytes (soFar ch)
     → AllBytes cmd
-    → decide img s cmd ≡ SearchRecord r q ne
-    → (f : Frame) × (x : SearchFields) × Searching s cmd f x r × (ne ≡ f .ne) × Searches (dataOf cmd) q x
-search-decided-sound img s cmd r q ne b e = go (shapeOf cmd) refl (subst (FromShape img s cmd (shapeOf cmd)) e (decide-from img s cmd))
+    → decide img s ch cmd ≡ SearchRecord r q ne
+    → (f : Frame) × (x : SearchFields) × Searching s ch cmd f x r × (ne ≡ f .ne) × Searches (dataOf ch cmd) q x
+search-decided-sound img s ch cmd r q ne a b e = go (way img s ch cmd)
   where
-    -- the reference of the fields is that of the data
-    here : (f : Frame) (x : SearchFields) → fileIn (part cmd (f .from) (f .lc)) q ≡ x .file → resolveRecord img s Read (searchNamed (fileIn (part cmd (f .from) (f .lc)) q)) ≡ RecordAt r
-        → resolveRecord img s Read (searchNamed (x .file)) ≡ RecordAt r
-    here f x i e = ap (λ (l : List ℕ). resolveRecord img s Read (searchNamed l)) (sym i) ∙ e
+    d : List ℕ
+    d = dataOf ch cmd
 
-    go : (a : Apdu) → shapeOf cmd ≡ a → FromShape img s cmd a (SearchRecord r q ne)
-        → (f : Frame) × (x : SearchFields) × Searching s cmd f x r × (ne ≡ f .ne) × Searches (dataOf cmd) q x
-    go Bad z h = let y : _≡_ {A = ℕ} 0 1 = cc in absurd (omega arith)
-    go (Good f) z h =
-        let d = data-is cmd f z in
-        let k = search-sound (part cmd (f .from) (f .lc)) q (h .asks) (bytes-part cmd (f .from) (f .lc) b) in
+    -- the reference of the fields is that of the data
+    here : (x : SearchFields) → fileIn d q ≡ x .file → resolveRecord img s Read (searchNamed (fileIn d q)) ≡ RecordAt r → resolveRecord img s Read (searchNamed (x .file)) ≡ RecordAt r
+    here x i e = ap (λ (l : List ℕ). resolveRecord img s Read (searchNamed l)) (sym i) ∙ e
+
+    go : Way img s ch cmd → (f : Frame) × (x : SearchFields) × Searching s ch cmd f x r × (ne ≡ f .ne) × Searches d q x
+    go (stops w z y) = let y : Status w ≡ SearchRecord r q ne = sym y ∙ e in let y : _≡_ {A = ℕ} 0 1 = cc in absurd (omega arith)
+    go (links f y) = let y : Status 0x9000 ≡ SearchRecord r q ne = sym (y .action) ∙ e in let y : _≡_ {A = ℕ} 0 1 = cc in absurd (omega arith)
+    go (whole f y) =
+        let z = y .whole in
+        let h : SearchBy img s f d r q ne = subst (From img s f d) e (y .from) in
+        let k = search-sound d q (h .asks) (data-bytes ch cmd f z a b) in
         let x = k .0 in
-        let w : Searches (dataOf cmd) q x = subst (λ (l : List ℕ). Searches l q x) (sym d) (k .1) in
         let c = eqb-true (f .header .cla) 0x00 (h .pair .0) in
         let i = eqb-true (f .header .ins) 0xA2 (h .pair .1) in
-        let v = tested img s f (dataOf cmd) r q ne (sym (led cmd f z img s c i) ∙ e) in
+        let v = tested img s f d r q ne (sym (led ch cmd f z img s c i) ∙ e) in
         let l = header-is (f .header) c i (eqb-true (f .header .p1) 0x00 (v .p1)) (eqb-true (f .header .p2) 0xF8 (v .p2)) in
-        let u = here f x (k .1 .file-placed .is) (h .at) in
+        let u = here x (k .1 .file-placed .is) (h .at) in
         let o = record-permitted img s Read (searchNamed (x .file)) r u in (
           f,
           x,
           record {
-            command = record { shape = z; header = l; le = v .le; writes = w .written; sized = w .sized };
+            command = record { shape = z; header = l; le = v .le; writes = k .1 .written; sized = k .1 .sized };
             meant = search-meant s (x .file) (RecordFile r) (o .listed) ∙ record-meant img s Read (searchNamed (x .file)) r u;
             permitted = o;
           },
           h .most,
-          w,
+          k .1,
         )
 
 -- ---- the same of what is answered
 
 -- a call that gets 9000 or 6282 is accepted
-two-accepted : (img : List ℕ) (s : Session) (cmd buf : List ℕ) → (step img s cmd buf .answer .status ≡ 0x9000) ⊎ (step img s cmd buf .answer .status ≡ 0x6282) → verdictOn img s (length buf) ≡ Accepted
+two-accepted : (img : List ℕ) (s : Session) (ch : Chain) (cmd buf : List ℕ) → (step img s ch cmd buf .answer .status ≡ 0x9000) ⊎ (step img s ch cmd buf .answer .status ≡ 0x6282) → verdictOn img s ch (length buf) ≡ Accepted
 unfolding step stepBy
-two-accepted img s cmd buf w = go (verdictOn img s (length buf)) w
+two-accepted img s ch cmd buf w = go (verdictOn img s ch (length buf)) w
   where
-    go : (x : Verdict) → (stepBy x img s cmd buf .answer .status ≡ 0x9000) ⊎ (stepBy x img s cmd buf .answer .status ≡ 0x6282) → x ≡ Accepted
+    go : (x : Verdict) → (stepBy x img s ch cmd buf .answer .status ≡ 0x9000) ⊎ (stepBy x img s ch cmd buf .answer .status ≡ 0x6282) → x ≡ Accepted
     go Accepted w = refl
     go (Refused r) w = absurd (⊎-elim (λ e. omega (arith, e)) (λ e. omega (arith, e)) w)
 
 pub only-searches : Only-searches
-only-searches img s cmd buf f b e p w =
-    let t = two-accepted img s cmd buf w in
-    let u = step-accepted img s cmd buf t in
-    go (decide img s cmd) refl
-    (subst (λ (o : Outcome). (o .answer .status ≡ 0x9000) ⊎ (o .answer .status ≡ 0x6282)) u w)
-    (subst (λ (a : Apdu). FromShape img s cmd a (decide img s cmd)) e (decide-from img s cmd))
-    (decide-word img s cmd)
+only-searches img s ch cmd buf f a b e p w = by-way (way img s ch cmd)
   where
+    u : (done (decide img s ch cmd) img s (dataOf ch cmd) buf .answer .status ≡ 0x9000) ⊎ (done (decide img s ch cmd) img s (dataOf ch cmd) buf .answer .status ≡ 0x6282)
+    u = subst (λ (o : Outcome). (o .answer .status ≡ 0x9000) ⊎ (o .answer .status ≡ 0x6282)) (step-accepted img s ch cmd buf (two-accepted img s ch cmd buf w)) w
+
     ins : f .header .ins ≡ 0xA2
-    ins = unfold isPair in eqb-true _ _ (allOf-facts (eqb (f .header .cla) 0x00 ∷ eqb (f .header .ins) 0xA2 ∷ []) p .1 .0)
+    ins = pair-facts f 0x00 0xA2 p .1
 
     -- another INS
     other : {A : Type 0} (i : ℕ) → eqb (f .header .ins) i ≡ true → eqb 0xA2 i ≡ false → A
     other i h n = false-true (sym n ∙ ap (λ (k : ℕ). eqb k i) (sym ins) ∙ h)
 
-    same-frame : (g : Frame) → shapeOf cmd ≡ Good g → g ≡ f
+    same-frame : (g : Frame) → wholeOf ch cmd ≡ Good g → g ≡ f
     same-frame g z = let y : Good g ≡ Good f = sym z ∙ e in cc
 
-    go : (x : Action) → decide img s cmd ≡ x
-        → (done x img s (dataOf cmd) buf .answer .status ≡ 0x9000) ⊎ (done x img s (dataOf cmd) buf .answer .status ≡ 0x6282)
-        → From img s f (part cmd (f .from) (f .lc)) x → Worded x
-        → (x : SearchFields) × (r : Rule) × Searching s cmd f x r
+    go : (x : Action) → decide img s ch cmd ≡ x
+        → (done x img s (dataOf ch cmd) buf .answer .status ≡ 0x9000) ⊎ (done x img s (dataOf ch cmd) buf .answer .status ≡ 0x6282)
+        → From img s f (dataOf ch cmd) x → Worded x
+        → (x : SearchFields) × (r : Rule) × Searching s ch cmd f x r
     go (Status v) z w h k =
         unfold done says in absurd (⊎-elim (refusing-not v 0x9000 k refl) (refusing-not v 0x6282 k refl) w)
     go (SelectApplication a) z w h k = other 0xA4 (h .0 .1) refl
@@ -257,26 +242,37 @@ only-searches img s cmd buf f b e p w =
     go (AppendRecord r) z w h k = other 0xE2 (h .0 .1) refl
     go (ReadRecord r a n) z w h k = other 0xB2 (h .pair .1) refl
     go (SearchRecord r q ne) z w h k =
-        let y = search-decided-sound img s cmd r q ne b z in
-        (y .1, r, subst (λ (g : Frame). Searching s cmd g (y .1) r) (same-frame (y .0) (y .2 .command .shape)) (y .2))
+        let y = search-decided-sound img s ch cmd r q ne a b z in
+        (y .1, r, subst (λ (g : Frame). Searching s ch cmd g (y .1) r) (same-frame (y .0) (y .2 .command .shape)) (y .2))
     go (Report g p2) z w h k = other 0x5E (h .0 .1) refl
     go (ReadBinaryOdd u a n) z w h k = other 0xB1 (h .0 .1) refl
 
+    -- the whole command of frame f is no other
+    by-way : Way img s ch cmd → (x : SearchFields) × (r : Rule) × Searching s ch cmd f x r
+    by-way (stops v n y) =
+        unfold done says in
+        absurd (⊎-elim (refusing-not v 0x9000 n refl) (refusing-not v 0x6282 n refl)
+        (subst (λ (x : Action). (done x img s (dataOf ch cmd) buf .answer .status ≡ 0x9000) ⊎ (done x img s (dataOf ch cmd) buf .answer .status ≡ 0x6282)) y u))
+    by-way (links g y) = absurd (not-both ch cmd f g e (pair-facts f 0x00 0xA2 p .0) (y .shape) (y .turned .link))
+    by-way (whole g y) =
+        let q = same-frame g (y .whole) in
+        go (decide img s ch cmd) refl u (subst (λ (k : Frame). From img s k (dataOf ch cmd) (decide img s ch cmd)) q (y .from)) (y .worded)
+
 pub search-refused : Search-refused
-search-refused img s cmd buf f b t e h n =
-    ap (λ (o : Outcome). o .answer .status) (step-accepted img s cmd buf (taken-accepted img s cmd buf t) ∙ ap (λ (x : Action). done x img s (dataOf cmd) buf) decided)
+search-refused img s ch cmd buf f a b t e h n =
+    ap (λ (o : Outcome). o .answer .status) (step-accepted img s ch cmd buf (taken-accepted img s ch cmd buf t) ∙ ap (λ (x : Action). done x img s (dataOf ch cmd) buf) decided)
     ∙ said
   where
     five : Bool
     five = allOf (leb 1 (f .lc) ∷ allLe f ∷ [])
 
-    no-query : readSearch (dataOf cmd) ≡ NoQuery
-    no-query = go (readSearch (dataOf cmd)) refl
+    no-query : readSearch (dataOf ch cmd) ≡ NoQuery
+    no-query = go (readSearch (dataOf ch cmd)) refl
       where
-        go : (q : Query) → readSearch (dataOf cmd) ≡ q → readSearch (dataOf cmd) ≡ NoQuery
+        go : (q : Query) → readSearch (dataOf ch cmd) ≡ q → readSearch (dataOf ch cmd) ≡ NoQuery
         go NoQuery z = z
         go (Ask q) z =
-            let k = search-sound (dataOf cmd) q z (subst AllBytes (sym (data-is cmd f e)) (bytes-part cmd (f .from) (f .lc) b)) in
+            let k = search-sound (dataOf ch cmd) q z (data-bytes ch cmd f e a b) in
             absurd (n (k .0) (k .1 .written) (k .1 .sized))
 
     p1 : eqb (f .header .p1) 0 ≡ true
@@ -285,16 +281,16 @@ search-refused img s cmd buf f b t e h n =
     p2 : eqb (f .header .p2) 0xF8 ≡ true
     p2 = ap (λ (y : Header). eqb (y .p2) 0xF8) h
 
-    tests : searchRecord img s f (dataOf cmd) ≡ ifElse five (searchBy img s (f .ne) (dataOf cmd) (readSearch (dataOf cmd))) (Status 0x6700)
+    tests : searchRecord img s f (dataOf ch cmd) ≡ ifElse five (searchBy img s (f .ne) (dataOf ch cmd) (readSearch (dataOf ch cmd))) (Status 0x6700)
     tests = unfold searchRecord inOrder in simp (allOf-accepted (eqb (f .header .p1) 0 ∷ eqb (f .header .p2) 0xF8 ∷ []) (p1, (p2, tt)))
 
-    decided : decide img s cmd ≡ ifElse five (Status 0x6A80) (Status 0x6700)
+    decided : decide img s ch cmd ≡ ifElse five (Status 0x6A80) (Status 0x6700)
     decided =
-        led cmd f e img s (ap (λ (y : Header). y .cla) h) (ap (λ (y : Header). y .ins) h)
+        led ch cmd f e img s (ap (λ (y : Header). y .cla) h) (ap (λ (y : Header). y .ins) h)
         ∙ tests
-        ∙ ap (λ (q : Query). ifElse five (searchBy img s (f .ne) (dataOf cmd) q) (Status 0x6700)) no-query
+        ∙ ap (λ (q : Query). ifElse five (searchBy img s (f .ne) (dataOf ch cmd) q) (Status 0x6700)) no-query
 
-    said : done (ifElse five (Status 0x6A80) (Status 0x6700)) img s (dataOf cmd) buf .answer .status ≡ ifElse five 0x6A80 0x6700
+    said : done (ifElse five (Status 0x6A80) (Status 0x6700)) img s (dataOf ch cmd) buf .answer .status ≡ ifElse five 0x6A80 0x6700
     said = unfold done says in by-cases five (λ y. simp y) (λ y. simp y)
 
 -- ---- m6 of the card to try is such a command, in either spelling
@@ -305,8 +301,8 @@ m6-fields b = record { file = b ∷ []; mode = 0x00; offset = 0x03 ∷ []; numbe
 abbrev m6-frame : Frame
 m6-frame = record { header = record { cla = 0x00; ins = 0xA2; p1 = 0x00; p2 = 0xF8 }; from = 5; lc = 28; le = 1; ne = 256 }
 
-pub m6 : (b : ℕ) → SearchCommand (0x00 ∷ 0xA2 ∷ 0x00 ∷ 0xF8 ∷ 0x1C ∷ 0x7F ∷ 0x76 ∷ 0x19 ∷ 0x51 ∷ 0x01 ∷ b ∷ 0xA1 ∷ 0x0B ∷ 0x80 ∷ 0x01 ∷ 0x00 ∷ 0xB0 ∷ 0x06 ∷ 0x02 ∷ 0x01 ∷ 0x03 ∷ 0x02 ∷ 0x01 ∷ 0x03 ∷ 0xA3 ∷ 0x07 ∷ 0xB1 ∷ 0x05 ∷ 0x81 ∷ 0x03 ∷ 0x46 ∷ 0x52 ∷ 0x41 ∷ 0x00 ∷ []) m6-frame (m6-fields b)
-unfolding shapeOf shapes firstShape framed headerOf orMost be16At allLe allOf dataOf searchData tlv tagBytes lengthBytes
+pub m6 : (b : ℕ) → SearchCommand NoChain (0x00 ∷ 0xA2 ∷ 0x00 ∷ 0xF8 ∷ 0x1C ∷ 0x7F ∷ 0x76 ∷ 0x19 ∷ 0x51 ∷ 0x01 ∷ b ∷ 0xA1 ∷ 0x0B ∷ 0x80 ∷ 0x01 ∷ 0x00 ∷ 0xB0 ∷ 0x06 ∷ 0x02 ∷ 0x01 ∷ 0x03 ∷ 0x02 ∷ 0x01 ∷ 0x03 ∷ 0xA3 ∷ 0x07 ∷ 0xB1 ∷ 0x05 ∷ 0x81 ∷ 0x03 ∷ 0x46 ∷ 0x52 ∷ 0x41 ∷ 0x00 ∷ []) m6-frame (m6-fields b)
+unfolding wholeOf shapeOf shapes firstShape framed headerOf orMost be16At allLe allOf dataOf searchData tlv tagBytes lengthBytes
 m6 b = record {
   shape = refl;
   header = refl;

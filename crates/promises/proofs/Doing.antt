@@ -2,12 +2,13 @@
 -- The proofs go forward through the tests of each command: whatever a test that fails answers is no 9000.
 use Prim.Native.Nat.{_%_, _-_, _≤_, _<_, min, ℕ, _+_, _/_, max}
 use mathlib.Core.Path.{_≡_, refl, sym, ap, ap₂, subst, _∙_}
-use mathlib.Core.Bool.{true}
+use mathlib.Core.Bool.{true, false, _||_}
 use mathlib.Core.List.{List·Memᴰ·head, List·Memᴰ·tail, List, [], _∷_}
 use native.Mathlib.Omega.{arith}
 use lib.ListN.{getD, length, drop, length-take}
 use lib.Dec.{leb, eqb, ltb}
 use borrow.Author.Tests.{eqb-false, eq-eqb, ne-eqb, eqb-true, leb-true, ltb-true, lt-ltb, le-ltb}
+use Rattle.machine_chain.specs.Chain.{Chain}
 use Rattle.base.specs.Bytes.{part, splice, AllBytes}
 use Rattle.base.proofs.Cases.{ifElse-ind, allOf-facts}
 use Rattle.base.proofs.Parts.{length-part}
@@ -78,10 +79,12 @@ use Rattle.machine_reply_fmm.proofs.Reporting.{report-bound}
 use Rattle.machine_answer.specs.Outcome.{Outcome, says}
 use Rattle.machine.specs.Effects.{done}
 use Rattle.machine.specs.Step.{verdictOn, step}
+use Rattle.machine_link.specs.Link.{isCommand}
 use Rattle.promises.specs.Calls.{isPair}
 use Rattle.promises.specs.Done.{Only, Obeyed, Appended, Append-done, Updated, Update-done, Activated, Activate-done, Fetched, Read-done, FetchedOdd, Read-odd-done, Selected, Select-done, Referred, Reported, Fmm-done}
 use Rattle.promises.proofs.Answering.{data-said, step-accepted, status-accepted, accepted-facts, accepted-room}
-use Rattle.promises.proofs.Deciding.{pair-facts, data-length, data-bytes, class-decided, even-led, odd-led}
+use Rattle.promises.proofs.Deciding.{even-led, odd-led}
+use Rattle.promises.proofs.Whole.{pair-facts, data-length, data-bytes, class-decided}
 use Rattle.promises.specs.Files.{Inspected, Writes-to}
 use Rattle.promises.proofs.Naming.{record-meant, record-permitted, p2-meant, biometrics-writes, transparent-inspected, file-inspected}
 use Rattle.promises.proofs.Growing.{accepts, write-accepted, write-changes}
@@ -130,9 +133,9 @@ module _ (img : List ℕ) (s : Session) (d buf : List ℕ) (R : Outcome → Type
 
 -- ---- a command answered 9000
 
-module _ (img : List ℕ) (s : Session) (cmd buf : List ℕ) (f : Frame) {c i : ℕ} (b : Obeyed img s cmd buf f c i) where
+module _ (img : List ℕ) (s : Session) (ch : Chain) (cmd buf : List ℕ) (f : Frame) {c i : ℕ} (b : Obeyed img s ch cmd buf f c i) where
   abbrev d : List ℕ
-  d = dataOf cmd
+  d = dataOf ch cmd
 
   cla : f .header .cla ≡ c
   cla = pair-facts f c i (b .pair) .0
@@ -140,66 +143,66 @@ module _ (img : List ℕ) (s : Session) (cmd buf : List ℕ) (f : Frame) {c i : 
   ins : f .header .ins ≡ i
   ins = pair-facts f c i (b .pair) .1
 
-  is-accepted : verdictOn img s (length buf) ≡ Accepted
-  is-accepted = status-accepted img s cmd buf (b .status)
+  is-accepted : verdictOn img s ch (length buf) ≡ Accepted
+  is-accepted = status-accepted img s ch cmd buf (b .status)
 
   well : wellFormed img ≡ true
-  well = accepted-facts img s (length buf) is-accepted .0
+  well = accepted-facts img s ch (length buf) is-accepted .0
 
-  came : (R : Outcome → Type 0) (x : Action) → decide img s cmd ≡ x → Came img s d buf R x → R (step img s cmd buf)
+  came : (R : Outcome → Type 0) (x : Action) → decide img s ch cmd ≡ x → Came img s d buf R x → R (step img s ch cmd buf)
   came R x e h =
-      let u : step img s cmd buf ≡ done x img s d buf = step-accepted img s cmd buf is-accepted ∙ ap (λ (y : Action). done y img s d buf) e in
+      let u : step img s ch cmd buf ≡ done x img s d buf = step-accepted img s ch cmd buf is-accepted ∙ ap (λ (y : Action). done y img s d buf) e in
       subst R (sym u) (h (sym (ap (λ (o : Outcome). o .answer .status) u) ∙ b .status))
 
-  by-class : decide img s cmd ≡ byClass img s f d
-  by-class = class-decided cmd f (b .shape) img s
+  by-class : eqb (c / 16 % 2) 1 ≡ false → (eqb c 0x00 || eqb c 0x80) ≡ true → isCommand c i ≡ true → decide img s ch cmd ≡ byClass img s f d
+  by-class u k m = class-decided ch cmd f (b .shape) c i (b .pair) u k m img s
 
 -- ---- APPEND RECORD
 
 pub append-done : Append-done
-append-done img s cmd buf f b = came img s cmd buf f b R (appendRecord img s f (dataOf cmd)) led tests
+append-done img s ch cmd buf f b = came img s ch cmd buf f b R (appendRecord img s f (dataOf ch cmd)) led tests
   where
     R : Outcome → Type 0
-    R = Appended img s cmd f
+    R = Appended img s ch cmd f
 
-    led : decide img s cmd ≡ appendRecord img s f (dataOf cmd)
-    led = by-class img s cmd buf f b ∙ (unfold byClass byIns in simp (cla img s cmd buf f b, ins img s cmd buf f b))
+    led : decide img s ch cmd ≡ appendRecord img s f (dataOf ch cmd)
+    led = by-class img s ch cmd buf f b refl refl (unfold isCommand in refl) ∙ (unfold byClass byIns in simp (cla img s ch cmd buf f b, ins img s ch cmd buf f b))
 
-    word : (w : ℕ) → ltb w 0x9000 ≡ true → Came img s (dataOf cmd) buf R (Status w)
-    word = word-came img s (dataOf cmd) buf R
+    word : (w : ℕ) → ltb w 0x9000 ≡ true → Came img s (dataOf ch cmd) buf R (Status w)
+    word = word-came img s (dataOf ch cmd) buf R
 
-    append : (r : Rule) → resolveRecord img s Append (orCurrent (f .header .p2 / 8)) ≡ RecordAt r → Appends img s (length (dataOf cmd)) r → Came img s (dataOf cmd) buf R (AppendRecord r)
+    append : (r : Rule) → resolveRecord img s Append (orCurrent (f .header .p2 / 8)) ≡ RecordAt r → Appends img s (length (dataOf ch cmd)) r → Came img s (dataOf ch cmd) buf R (AppendRecord r)
     append r e a z =
         unfold done says recordsOf in
-        let o = well img s cmd buf f b in
-        let x = accepts img s cmd buf o (dataOf cmd) r a in
+        let o = well img s ch cmd buf f b in
+        let x = accepts img s ch cmd buf o (dataOf ch cmd) r a in
         record {
           rule = r;
           meant = p2-meant s (f .header .p2 / 8) (RecordFile r) ∙ record-meant img s Append (orCurrent (f .header .p2 / 8)) r e;
           permitted = record-permitted img s Append (orCurrent (f .header .p2 / 8)) r e;
-          records = append-list img (r .kind) r (dataOf cmd) o x;
-          only = only-changed img _ (r .kind) (append-changes img (r .kind) r (dataOf cmd) o x);
+          records = append-list img (r .kind) r (dataOf ch cmd) o x;
+          only = only-changed img _ (r .kind) (append-changes img (r .kind) r (dataOf ch cmd) o x);
           current = ap (λ (n : ℕ). placed s (OnRecord (r .id) (n + 1))) (sym (records-count (body img (r .kind))));
         }
 
     on : (r : Rule) → resolveRecord img s Append (orCurrent (f .header .p2 / 8)) ≡ RecordAt r → RecordResolved img s Append r → lcOnly f ≡ true
-        → Came img s (dataOf cmd) buf R (appendOn img (length (dataOf cmd)) r)
+        → Came img s (dataOf ch cmd) buf R (appendOn img (length (dataOf ch cmd)) r)
     on r e o l =
         unfold appendOn in
-        inOrder-each (Came img s (dataOf cmd) buf R) _ _ (word 0x6700 refl, (word 0x6A84 refl, (word 0x6A84 refl, tt)))
+        inOrder-each (Came img s (dataOf ch cmd) buf R) _ _ (word 0x6700 refl, (word 0x6A84 refl, (word 0x6A84 refl, tt)))
         (λ p. append r e (record {
           file = o;
-          some = let h = leb-true 1 (f .lc) (unfold lcOnly in allOf-facts (leb 1 (f .lc) ∷ eqb (f .le) 0 ∷ []) l .0) in omega (arith, h, data-length cmd f (b .shape));
+          some = let h = leb-true 1 (f .lc) (unfold lcOnly in allOf-facts (leb 1 (f .lc) ∷ eqb (f .le) 0 ∷ []) l .0) in omega (arith, h, data-length ch cmd f (b .shape));
           short = p .0;
           few = p .1 .0;
           room = p .1 .1 .0;
         }))
 
-    tests : Came img s (dataOf cmd) buf R (appendRecord img s f (dataOf cmd))
+    tests : Came img s (dataOf ch cmd) buf R (appendRecord img s f (dataOf ch cmd))
     tests =
         unfold appendRecord in
-        inOrder-each (Came img s (dataOf cmd) buf R) _ _ (word 0x6A86 refl, (word 0x6700 refl, tt))
-        (λ p. on-record img s (dataOf cmd) buf R Append (orCurrent (f .header .p2 / 8)) (appendOn img (length (dataOf cmd))) (λ r e o. on r e o (p .1 .0)))
+        inOrder-each (Came img s (dataOf ch cmd) buf R) _ _ (word 0x6A86 refl, (word 0x6700 refl, tt))
+        (λ p. on-record img s (dataOf ch cmd) buf R Append (orCurrent (f .header .p2 / 8)) (appendOn img (length (dataOf ch cmd))) (λ r e o. on r e o (p .1 .0)))
 
 -- ---- UPDATE BINARY
 
@@ -209,32 +212,32 @@ unfolding idOrCurrent
 id-or-current i = (λ h. simp (eq-eqb i 0 h), λ h. simp (ne-eqb i 0 h))
 
 pub update-done : Update-done
-update-done img s cmd buf f y b = came img s cmd buf f b R (updateBinary img s f (dataOf cmd)) led tests
+update-done img s ch cmd buf f so y b = came img s ch cmd buf f b R (updateBinary img s f (dataOf ch cmd)) led tests
   where
     R : Outcome → Type 0
-    R = Updated img s cmd f
+    R = Updated img s ch cmd f
 
     o : wellFormed img ≡ true
-    o = well img s cmd buf f b
+    o = well img s ch cmd buf f b
 
-    led : decide img s cmd ≡ updateBinary img s f (dataOf cmd)
-    led = by-class img s cmd buf f b ∙ (unfold byClass byIns in simp (cla img s cmd buf f b, ins img s cmd buf f b))
+    led : decide img s ch cmd ≡ updateBinary img s f (dataOf ch cmd)
+    led = by-class img s ch cmd buf f b refl refl (unfold isCommand in refl) ∙ (unfold byClass byIns in simp (cla img s ch cmd buf f b, ins img s ch cmd buf f b))
 
-    word : (w : ℕ) → ltb w 0x9000 ≡ true → Came img s (dataOf cmd) buf R (Status w)
-    word = word-came img s (dataOf cmd) buf R
+    word : (w : ℕ) → ltb w 0x9000 ≡ true → Came img s (dataOf ch cmd) buf R (Status w)
+    word = word-came img s (dataOf ch cmd) buf R
 
-    write : (w : Writes) → readUpdate (dataOf cmd) ≡ Writing w → (n : ℕ) → resolveBiometrics img s (idOrCurrent (p1p2 f)) ≡ BiometricsAt n
-        → Writable img s n w → Came img s (dataOf cmd) buf R (UpdateBinary n w)
+    write : (w : Writes) → readUpdate (dataOf ch cmd) ≡ Writing w → (n : ℕ) → resolveBiometrics img s (idOrCurrent (p1p2 f)) ≡ BiometricsAt n
+        → Writable img s n w → Came img s (dataOf ch cmd) buf R (UpdateBinary n w)
     write w v n e a z =
         unfold done says in
-        let x = update-sound (dataOf cmd) w v (data-bytes cmd f (b .shape) y) in
+        let x = update-sound (dataOf ch cmd) w v (data-bytes ch cmd f (b .shape) so y) in
         let offset = x .0 in
         let bytes = x .1 in
         let u = x .2 in
         let k : ℕ = biometricsKind n in
         let g = a .file .file .ok in
-        let dat : List ℕ = part (dataOf cmd) (w .bytes .at) (w .bytes .len) in
-        let t = write-accepted img s cmd buf o n w (dataOf cmd) a in
+        let dat : List ℕ = part (dataOf ch cmd) (w .bytes .at) (w .bytes .len) in
+        let t = write-accepted img s ch cmd buf o n w (dataOf ch cmd) a in
         let new = update-body img k o (g .kind) (g .stands) (w .offset) dat in
         let to = biometrics-writes img s (idOrCurrent (p1p2 f)) n e (a .file) in
         record {
@@ -249,44 +252,44 @@ update-done img s cmd buf f y b = came img s cmd buf f b R (updateBinary img s f
           larger = ap written new ∙ update-written (body img k) (w .offset) dat t
               ∙ ap₂ (λ (a : ℕ) (l : List ℕ). max (written (body img k)) (a + length l)) (u .offset-is) (u .bytes-placed .is);
           state-kept = ap state new ∙ update-state (body img k) (w .offset) dat t;
-          only = only-changed img _ k (write-changes img s cmd buf o n w (dataOf cmd) a);
+          only = only-changed img _ k (write-changes img s ch cmd buf o n w (dataOf ch cmd) a);
           current = refl;
         }
 
-    on : (w : Writes) → readUpdate (dataOf cmd) ≡ Writing w → (n : ℕ) → resolveBiometrics img s (idOrCurrent (p1p2 f)) ≡ BiometricsAt n → BiometricsResolved img s n
-        → Came img s (dataOf cmd) buf R (updateOn img w n)
+    on : (w : Writes) → readUpdate (dataOf ch cmd) ≡ Writing w → (n : ℕ) → resolveBiometrics img s (idOrCurrent (p1p2 f)) ≡ BiometricsAt n → BiometricsResolved img s n
+        → Came img s (dataOf ch cmd) buf R (updateOn img w n)
     on w v n e r =
         unfold updateOn in
-        inOrder-each (Came img s (dataOf cmd) buf R) _ _ (word 0x6A80 refl, (word 0x6A84 refl, tt))
+        inOrder-each (Came img s (dataOf ch cmd) buf R) _ _ (word 0x6A80 refl, (word 0x6A84 refl, tt))
         (λ p. write w v n e (record { file = r; behind = p .0; room = p .1 .0 }))
 
-    fields : (u : Update) → readUpdate (dataOf cmd) ≡ u → Came img s (dataOf cmd) buf R (updateBy img s (p1p2 f) u)
+    fields : (u : Update) → readUpdate (dataOf ch cmd) ≡ u → Came img s (dataOf ch cmd) buf R (updateBy img s (p1p2 f) u)
     fields NoUpdate v = word 0x6A80 refl
-    fields (Writing w) v = on-biometrics img s (dataOf cmd) buf R (idOrCurrent (p1p2 f)) (updateOn img w) (on w v)
+    fields (Writing w) v = on-biometrics img s (dataOf ch cmd) buf R (idOrCurrent (p1p2 f)) (updateOn img w) (on w v)
 
-    tests : Came img s (dataOf cmd) buf R (updateBinary img s f (dataOf cmd))
+    tests : Came img s (dataOf ch cmd) buf R (updateBinary img s f (dataOf ch cmd))
     tests =
         unfold updateBinary in
-        inOrder-each (Came img s (dataOf cmd) buf R) _ _ (word 0x6700 refl, tt) (λ p. fields (readUpdate (dataOf cmd)) refl)
+        inOrder-each (Came img s (dataOf ch cmd) buf R) _ _ (word 0x6700 refl, tt) (λ p. fields (readUpdate (dataOf ch cmd)) refl)
 
 -- ---- ACTIVATE
 
 pub activate-done : Activate-done
-activate-done img s cmd buf f b = came img s cmd buf f b R (activateFile img s f) led tests
+activate-done img s ch cmd buf f b = came img s ch cmd buf f b R (activateFile img s f) led tests
   where
     R : Outcome → Type 0
     R = Activated img s
 
     o : wellFormed img ≡ true
-    o = well img s cmd buf f b
+    o = well img s ch cmd buf f b
 
-    led : decide img s cmd ≡ activateFile img s f
-    led = by-class img s cmd buf f b ∙ (unfold byClass byIns in simp (cla img s cmd buf f b, ins img s cmd buf f b))
+    led : decide img s ch cmd ≡ activateFile img s f
+    led = by-class img s ch cmd buf f b refl refl (unfold isCommand in refl) ∙ (unfold byClass byIns in simp (cla img s ch cmd buf f b, ins img s ch cmd buf f b))
 
-    word : (w : ℕ) → ltb w 0x9000 ≡ true → Came img s (dataOf cmd) buf R (Status w)
-    word = word-came img s (dataOf cmd) buf R
+    word : (w : ℕ) → ltb w 0x9000 ≡ true → Came img s (dataOf ch cmd) buf R (Status w)
+    word = word-came img s (dataOf ch cmd) buf R
 
-    on : (n : ℕ) → resolveBiometrics img s Current ≡ BiometricsAt n → BiometricsResolved img s n → Came img s (dataOf cmd) buf R (Activate n)
+    on : (n : ℕ) → resolveBiometrics img s Current ≡ BiometricsAt n → BiometricsResolved img s n → Came img s (dataOf ch cmd) buf R (Activate n)
     on n e r t =
         unfold done says in
         let k : ℕ = biometricsKind n in
@@ -303,11 +306,11 @@ activate-done img s cmd buf f b = came img s cmd buf f b R (activateFile img s f
           current = refl;
         }
 
-    tests : Came img s (dataOf cmd) buf R (activateFile img s f)
+    tests : Came img s (dataOf ch cmd) buf R (activateFile img s f)
     tests =
         unfold activateFile in
-        inOrder-each (Came img s (dataOf cmd) buf R) _ _ (word 0x6A86 refl, (word 0x6700 refl, tt))
-        (λ p. on-biometrics img s (dataOf cmd) buf R Current Activate on)
+        inOrder-each (Came img s (dataOf ch cmd) buf R) _ _ (word 0x6A86 refl, (word 0x6700 refl, tt))
+        (λ p. on-biometrics img s (dataOf ch cmd) buf R Current Activate on)
 
 -- ---- READ BINARY
 
@@ -322,16 +325,16 @@ read-named f = (
 )
 
 pub read-done : Read-done
-read-done img s cmd buf f b = came img s cmd buf f b R (readBinary img s f) (even-led cmd f (b .shape) img s (b .pair)) tests
+read-done img s ch cmd buf f b = came img s ch cmd buf f b R (readBinary img s f) (even-led ch cmd f (b .shape) img s (b .pair)) tests
   where
     R : Outcome → Type 0
     R = Fetched img s f
 
-    word : (w : ℕ) → ltb w 0x9000 ≡ true → Came img s (dataOf cmd) buf R (Status w)
-    word = word-came img s (dataOf cmd) buf R
+    word : (w : ℕ) → ltb w 0x9000 ≡ true → Came img s (dataOf ch cmd) buf R (Status w)
+    word = word-came img s (dataOf ch cmd) buf R
 
     read : (t : Transparent) → resolveTransparent img s (readNamed f) ≡ TransparentAt t → TransparentResolved img s t → readOffset f < length (fileBytes img t)
-        → Came img s (dataOf cmd) buf R (ReadBinary t (readOffset f) (min (f .ne) (min 2048 (length (fileBytes img t) - readOffset f))))
+        → Came img s (dataOf ch cmd) buf R (ReadBinary t (readOffset f) (min (f .ne) (min 2048 (length (fileBytes img t) - readOffset f))))
     read t e r h z =
         unfold done says in
         let n : ℕ = min (f .ne) (min 2048 (length (fileBytes img t) - readOffset f)) in
@@ -343,44 +346,44 @@ read-done img s cmd buf f b = came img s cmd buf f b R (readBinary img s f) (eve
           of-current = λ y. let q = read-named f .0 y in (subst (λ (x : Named). Inspected img s x (TransparentFile t)) (q .0) i, q .1);
           of-short = λ y. let q = read-named f .1 y in (subst (λ (x : Named). Inspected img s x (TransparentFile t)) (q .0) i, q .1);
           inside = h;
-          told = data-said 0x9000 (part (fileBytes img t) (readOffset f) n) (setFile s (TransparentFile t)) img buf l (accepted-room img s buf (is-accepted img s cmd buf f b));
+          told = data-said 0x9000 (part (fileBytes img t) (readOffset f) n) (setFile s (TransparentFile t)) img buf l (accepted-room img s ch buf (is-accepted img s ch cmd buf f b));
           image-kept = refl;
           current = refl;
         }
 
-    on : (t : Transparent) → resolveTransparent img s (readNamed f) ≡ TransparentAt t → TransparentResolved img s t → Came img s (dataOf cmd) buf R (readBinaryOn img (readOffset f) (f .ne) t)
+    on : (t : Transparent) → resolveTransparent img s (readNamed f) ≡ TransparentAt t → TransparentResolved img s t → Came img s (dataOf ch cmd) buf R (readBinaryOn img (readOffset f) (f .ne) t)
     on t e r =
         unfold readBinaryOn in
-        inOrder-each (Came img s (dataOf cmd) buf R) _ _ (word 0x6B00 refl, tt) (λ p. read t e r (ltb-true (readOffset f) (length (fileBytes img t)) (p .0)))
+        inOrder-each (Came img s (dataOf ch cmd) buf R) _ _ (word 0x6B00 refl, tt) (λ p. read t e r (ltb-true (readOffset f) (length (fileBytes img t)) (p .0)))
 
-    tests : Came img s (dataOf cmd) buf R (readBinary img s f)
+    tests : Came img s (dataOf ch cmd) buf R (readBinary img s f)
     tests =
         unfold readBinary in
-        inOrder-each (Came img s (dataOf cmd) buf R) _ _ (word 0x6A86 refl, (word 0x6700 refl, tt))
-        (λ p. on-transparent img s (dataOf cmd) buf R (readNamed f) (readBinaryOn img (readOffset f) (f .ne)) on)
+        inOrder-each (Came img s (dataOf ch cmd) buf R) _ _ (word 0x6A86 refl, (word 0x6700 refl, tt))
+        (λ p. on-transparent img s (dataOf ch cmd) buf R (readNamed f) (readBinaryOn img (readOffset f) (f .ne)) on)
 
 -- ---- READ BINARY with the odd INS
 
 pub read-odd-done : Read-odd-done
-read-odd-done img s cmd buf f y b = came img s cmd buf f b R (readBinaryOdd img s f (dataOf cmd)) (odd-led cmd f (b .shape) img s (b .pair)) tests
+read-odd-done img s ch cmd buf f so y b = came img s ch cmd buf f b R (readBinaryOdd img s f (dataOf ch cmd)) (odd-led ch cmd f (b .shape) img s (b .pair)) tests
   where
     R : Outcome → Type 0
-    R = FetchedOdd img s cmd f
+    R = FetchedOdd img s ch cmd f
 
-    word : (w : ℕ) → ltb w 0x9000 ≡ true → Came img s (dataOf cmd) buf R (Status w)
-    word = word-came img s (dataOf cmd) buf R
+    word : (w : ℕ) → ltb w 0x9000 ≡ true → Came img s (dataOf ch cmd) buf R (Status w)
+    word = word-came img s (dataOf ch cmd) buf R
 
-    read : (a : ℕ) → readOffsetObject (dataOf cmd) ≡ Offset a → (t : Transparent) → resolveTransparent img s (idOrCurrent (p1p2 f)) ≡ TransparentAt t → TransparentResolved img s t
-        → (n : ℕ) → OddBounds img a (f .ne) t n → Came img s (dataOf cmd) buf R (ReadBinaryOdd t a n)
+    read : (a : ℕ) → readOffsetObject (dataOf ch cmd) ≡ Offset a → (t : Transparent) → resolveTransparent img s (idOrCurrent (p1p2 f)) ≡ TransparentAt t → TransparentResolved img s t
+        → (n : ℕ) → OddBounds img a (f .ne) t n → Came img s (dataOf ch cmd) buf R (ReadBinaryOdd t a n)
     read a v t e r n k z =
         unfold done says in
-        let x = offset-sound (dataOf cmd) a v (data-bytes cmd f (b .shape) y) in
+        let x = offset-sound (dataOf ch cmd) a v (data-bytes ch cmd f (b .shape) so y) in
         let o = x .1 in
         let c : List ℕ = part (fileBytes img t) a n in
         let l : length c ≡ n = length-part (fileBytes img t) a n (k .inside) in
         let q : length (tlv 0x53 c) ≡ objectLength n = length-tlv-part 0x53 (fileBytes img t) a n (omega arith) (k .inside) in
         let i = transparent-inspected img s (idOrCurrent (p1p2 f)) t e r in
-        let told = data-said 0x9000 (tlv 0x53 c) (setFile s (TransparentFile t)) img buf (omega (arith, q, k .short)) (accepted-room img s buf (is-accepted img s cmd buf f b)) in
+        let told = data-said 0x9000 (tlv 0x53 c) (setFile s (TransparentFile t)) img buf (omega (arith, q, k .short)) (accepted-room img s ch buf (is-accepted img s ch cmd buf f b)) in
         record {
           file = t;
           offset = x .0;
@@ -399,50 +402,50 @@ read-odd-done img s cmd buf f y b = came img s cmd buf f b R (readBinaryOdd img 
           current = refl;
         }
 
-    on : (a : ℕ) → readOffsetObject (dataOf cmd) ≡ Offset a → (t : Transparent) → resolveTransparent img s (idOrCurrent (p1p2 f)) ≡ TransparentAt t → TransparentResolved img s t
-        → Came img s (dataOf cmd) buf R (readOddOn img a (f .ne) t)
+    on : (a : ℕ) → readOffsetObject (dataOf ch cmd) ≡ Offset a → (t : Transparent) → resolveTransparent img s (idOrCurrent (p1p2 f)) ≡ TransparentAt t → TransparentResolved img s t
+        → Came img s (dataOf ch cmd) buf R (readOddOn img a (f .ne) t)
     on a v t e r =
         unfold readOddOn in
-        inOrder-each (Came img s (dataOf cmd) buf R) _ _ (word 0x6B00 refl, (word 0x6700 refl, tt))
+        inOrder-each (Came img s (dataOf ch cmd) buf R) _ _ (word 0x6B00 refl, (word 0x6700 refl, tt))
         (λ p. read a v t e r (oddCount img a (f .ne) t) (odd-bounds img a (f .ne) t (p .0) (p .1 .0)))
 
-    data-field : (x : OffsetObject) → readOffsetObject (dataOf cmd) ≡ x → Came img s (dataOf cmd) buf R (readOddBy img s f x)
+    data-field : (x : OffsetObject) → readOffsetObject (dataOf ch cmd) ≡ x → Came img s (dataOf ch cmd) buf R (readOddBy img s f x)
     data-field NoOffset v = word 0x6A80 refl
-    data-field (Offset a) v = on-transparent img s (dataOf cmd) buf R (idOrCurrent (p1p2 f)) (readOddOn img a (f .ne)) (on a v)
+    data-field (Offset a) v = on-transparent img s (dataOf ch cmd) buf R (idOrCurrent (p1p2 f)) (readOddOn img a (f .ne)) (on a v)
 
-    tests : Came img s (dataOf cmd) buf R (readBinaryOdd img s f (dataOf cmd))
+    tests : Came img s (dataOf ch cmd) buf R (readBinaryOdd img s f (dataOf ch cmd))
     tests =
         unfold readBinaryOdd in
-        inOrder-each (Came img s (dataOf cmd) buf R) _ _ (word 0x6700 refl, tt) (λ p. data-field (readOffsetObject (dataOf cmd)) refl)
+        inOrder-each (Came img s (dataOf ch cmd) buf R) _ _ (word 0x6700 refl, tt) (λ p. data-field (readOffsetObject (dataOf ch cmd)) refl)
 
 -- ---- SELECT
 
 pub select-done : Select-done
-select-done img s cmd buf f b = came img s cmd buf f b R (select img s f (dataOf cmd)) led tests
+select-done img s ch cmd buf f b = came img s ch cmd buf f b R (select img s f (dataOf ch cmd)) led tests
   where
     R : Outcome → Type 0
-    R = Selected img s cmd f
+    R = Selected img s ch cmd f
 
     p1 : ℕ
     p1 = f .header .p1
 
-    led : decide img s cmd ≡ select img s f (dataOf cmd)
-    led = by-class img s cmd buf f b ∙ (unfold byClass byIns in simp (cla img s cmd buf f b, ins img s cmd buf f b))
+    led : decide img s ch cmd ≡ select img s f (dataOf ch cmd)
+    led = by-class img s ch cmd buf f b refl refl (unfold isCommand in refl) ∙ (unfold byClass byIns in simp (cla img s ch cmd buf f b, ins img s ch cmd buf f b))
 
-    word : (w : ℕ) → ltb w 0x9000 ≡ true → Came img s (dataOf cmd) buf R (Status w)
-    word = word-came img s (dataOf cmd) buf R
+    word : (w : ℕ) → ltb w 0x9000 ≡ true → Came img s (dataOf ch cmd) buf R (Status w)
+    word = word-came img s (dataOf ch cmd) buf R
 
     -- where P1 is not 04 the data has two bytes
-    two-bytes : lengthFits p1 (f .lc) ≡ true → (p1 ≡ 0x04 → ⊥) → length (dataOf cmd) ≡ 2
+    two-bytes : lengthFits p1 (f .lc) ≡ true → (p1 ≡ 0x04 → ⊥) → length (dataOf ch cmd) ≡ 2
     two-bytes h n =
         unfold lengthFits in
-        data-length cmd f (b .shape) ∙ eqb-true (f .lc) 2 (simp (ne-eqb p1 0x04 n) at h)
+        data-length ch cmd f (b .shape) ∙ eqb-true (f .lc) 2 (simp (ne-eqb p1 0x04 n) at h)
 
-    aid : p1 ≡ 0x04 → (a : AidName) → aidOf (dataOf cmd) ≡ a → Came img s (dataOf cmd) buf R (selectAid img s a)
+    aid : p1 ≡ 0x04 → (a : AidName) → aidOf (dataOf ch cmd) ≡ a → Came img s (dataOf ch cmd) buf R (selectAid img s a)
     aid e OtherAid q = word 0x6A82 refl
     aid e (Application a) q =
         unfold done says in
-        inOrder-each (Came img s (dataOf cmd) buf R) _ _ (word 0x6A82 refl, (word 0x6982 refl, tt))
+        inOrder-each (Came img s (dataOf ch cmd) buf R) _ _ (word 0x6A82 refl, (word 0x6982 refl, tt))
         (λ p z. record {
           p1-known = List·Memᴰ·head e;
           by-aid = λ _. (a, q, p .0, p .1 .0, refl);
@@ -452,54 +455,54 @@ select-done img s cmd buf f b = came img s cmd buf f b R (select img s f (dataOf
           nothing-told = refl;
         })
 
-    file : p1 ≡ 0x02 → length (dataOf cmd) ≡ 2 → Came img s (dataOf cmd) buf R (selectFile img s (idIn (dataOf cmd)))
+    file : p1 ≡ 0x02 → length (dataOf ch cmd) ≡ 2 → Came img s (dataOf ch cmd) buf R (selectFile img s (idIn (dataOf ch cmd)))
     file e l =
         unfold selectFile done says in
-        on-file img s (dataOf cmd) buf R (Id (idIn (dataOf cmd))) SelectFile
+        on-file img s (dataOf ch cmd) buf R (Id (idIn (dataOf ch cmd))) SelectFile
         (λ g q r z. record {
           p1-known = List·Memᴰ·tail (List·Memᴰ·head e);
           by-aid = λ y. absurd (omega (arith, e, y));
-          by-id = λ _. (g, l, file-inspected img s (Id (idIn (dataOf cmd))) g q r, refl);
+          by-id = λ _. (g, l, file-inspected img s (Id (idIn (dataOf ch cmd))) g q r, refl);
           by-master = λ y. absurd (omega (arith, e, y));
           image-kept = refl;
           nothing-told = refl;
         })
 
-    master : p1 ≡ 0x00 → length (dataOf cmd) ≡ 2 → Came img s (dataOf cmd) buf R (selectMaster (idIn (dataOf cmd)))
+    master : p1 ≡ 0x00 → length (dataOf ch cmd) ≡ 2 → Came img s (dataOf ch cmd) buf R (selectMaster (idIn (dataOf ch cmd)))
     master e l =
         unfold selectMaster done says in
-        ifElse-ind (Came img s (dataOf cmd) buf R) (eqb (idIn (dataOf cmd)) 0x3F00)
+        ifElse-ind (Came img s (dataOf ch cmd) buf R) (eqb (idIn (dataOf ch cmd)) 0x3F00)
         (λ q z. record {
           p1-known = List·Memᴰ·tail (List·Memᴰ·tail (List·Memᴰ·head e));
           by-aid = λ y. absurd (omega (arith, e, y));
           by-id = λ y. absurd (omega (arith, e, y));
-          by-master = λ _. (l, eqb-true (idIn (dataOf cmd)) 0x3F00 q, refl);
+          by-master = λ _. (l, eqb-true (idIn (dataOf ch cmd)) 0x3F00 q, refl);
           image-kept = refl;
           nothing-told = refl;
         })
         (λ q. word 0x6A82 refl)
 
-    chosen : oneOfThree p1 ≡ true → lengthFits p1 (f .lc) ≡ true → Came img s (dataOf cmd) buf R (selectBy img s p1 (dataOf cmd))
+    chosen : oneOfThree p1 ≡ true → lengthFits p1 (f .lc) ≡ true → Came img s (dataOf ch cmd) buf R (selectBy img s p1 (dataOf ch cmd))
     chosen h l =
         unfold selectBy oneOfThree in
-        ifElse-ind (Came img s (dataOf cmd) buf R) (eqb p1 0x04)
-        (λ y. aid (eqb-true p1 0x04 y) (aidOf (dataOf cmd)) refl)
+        ifElse-ind (Came img s (dataOf ch cmd) buf R) (eqb p1 0x04)
+        (λ y. aid (eqb-true p1 0x04 y) (aidOf (dataOf ch cmd)) refl)
         (λ n. let k = two-bytes l (eqb-false p1 0x04 n) in
-        ifElse-ind (Came img s (dataOf cmd) buf R) (eqb p1 0x02) (λ y. file (eqb-true p1 0x02 y) k) (λ m. master (eqb-true p1 0x00 (simp (n, m) at h)) k))
+        ifElse-ind (Came img s (dataOf ch cmd) buf R) (eqb p1 0x02) (λ y. file (eqb-true p1 0x02 y) k) (λ m. master (eqb-true p1 0x00 (simp (n, m) at h)) k))
 
-    tests : Came img s (dataOf cmd) buf R (select img s f (dataOf cmd))
+    tests : Came img s (dataOf ch cmd) buf R (select img s f (dataOf ch cmd))
     tests =
         unfold select in
-        inOrder-each (Came img s (dataOf cmd) buf R) _ _ (word 0x6A86 refl, (word 0x6A86 refl, (word 0x6700 refl, (word 0x6700 refl, tt))))
+        inOrder-each (Came img s (dataOf ch cmd) buf R) _ _ (word 0x6A86 refl, (word 0x6A86 refl, (word 0x6700 refl, (word 0x6700 refl, tt))))
         (λ p. chosen (p .1 .0) (p .1 .1 .1 .0))
 
 -- ---- FMM
 
 pub fmm-done : Fmm-done
-fmm-done img s cmd buf f y b = came img s cmd buf f b R (fmm img s f (dataOf cmd)) led tests
+fmm-done img s ch cmd buf f so y b = came img s ch cmd buf f b R (fmm img s f (dataOf ch cmd)) led tests
   where
     R : Outcome → Type 0
-    R = Reported img s cmd f
+    R = Reported img s ch cmd f
 
     p1 : ℕ
     p1 = f .header .p1
@@ -507,17 +510,17 @@ fmm-done img s cmd buf f y b = came img s cmd buf f b R (fmm img s f (dataOf cmd
     p2 : ℕ
     p2 = f .header .p2
 
-    led : decide img s cmd ≡ fmm img s f (dataOf cmd)
-    led = by-class img s cmd buf f b ∙ (unfold byClass byOwnIns in simp (cla img s cmd buf f b, ins img s cmd buf f b))
+    led : decide img s ch cmd ≡ fmm img s f (dataOf ch cmd)
+    led = by-class img s ch cmd buf f b refl refl (unfold isCommand in refl) ∙ (unfold byClass byOwnIns in simp (cla img s ch cmd buf f b, ins img s ch cmd buf f b))
 
-    word : (w : ℕ) → ltb w 0x9000 ≡ true → Came img s (dataOf cmd) buf R (Status w)
-    word = word-came img s (dataOf cmd) buf R
+    word : (w : ℕ) → ltb w 0x9000 ≡ true → Came img s (dataOf ch cmd) buf R (Status w)
+    word = word-came img s (dataOf ch cmd) buf R
 
-    report : (n : Named) → (p1 ≡ 0 → n ≡ Current) → ((p1 ≡ 0 → ⊥) → Referred (dataOf cmd) n) → Came img s (dataOf cmd) buf R (fmmNamed img s p2 n)
+    report : (n : Named) → (p1 ≡ 0 → n ≡ Current) → ((p1 ≡ 0 → ⊥) → Referred (dataOf ch cmd) n) → Came img s (dataOf ch cmd) buf R (fmmNamed img s p2 n)
     report n c d =
         unfold fmmNamed fmmOn done says in
-        on-file img s (dataOf cmd) buf R n (fmmOn p2)
-        (λ g e r. inOrder-each (Came img s (dataOf cmd) buf R) _ _ (word 0x6A86 refl, tt)
+        on-file img s (dataOf ch cmd) buf R n (fmmOn p2)
+        (λ g e r. inOrder-each (Came img s (dataOf ch cmd) buf R) _ _ (word 0x6A86 refl, tt)
         (λ p z. record {
           file = g;
           named = n;
@@ -525,19 +528,19 @@ fmm-done img s cmd buf f y b = came img s cmd buf f b R (fmm img s f (dataOf cmd
           of-named = d;
           reached = file-inspected img s n g e r;
           told = data-said 0x9000 (reportData p2 (total img g) (remaining img g) (existing img g)) (setFile s g) img buf
-              (report-bound p2 (total img g) (remaining img g) (existing img g)) (accepted-room img s buf (is-accepted img s cmd buf f b));
+              (report-bound p2 (total img g) (remaining img g) (existing img g)) (accepted-room img s ch buf (is-accepted img s ch cmd buf f b));
           image-kept = refl;
           current = refl;
         }))
 
     -- the value of `51`
     value : Span → List ℕ
-    value q = part (dataOf cmd) (q .at) (q .len)
+    value q = part (dataOf ch cmd) (q .at) (q .len)
 
-    refers : (q : Span) → readReference (dataOf cmd) ≡ Refers q → (n : Named) → (length (value q) ≡ 1 → (getD (value q) 0 0 % 8 ≡ 0) × (n ≡ Short (getD (value q) 0 0 / 8)))
-        → (length (value q) ≡ 2 → n ≡ Id (idIn (value q))) → Referred (dataOf cmd) n
+    refers : (q : Span) → readReference (dataOf ch cmd) ≡ Refers q → (n : Named) → (length (value q) ≡ 1 → (getD (value q) 0 0 % 8 ≡ 0) × (n ≡ Short (getD (value q) 0 0 / 8)))
+        → (length (value q) ≡ 2 → n ≡ Id (idIn (value q))) → Referred (dataOf ch cmd) n
     refers q e n c d =
-        let x = reference-sound (dataOf cmd) q e (data-bytes cmd f (b .shape) y) in
+        let x = reference-sound (dataOf ch cmd) q e (data-bytes ch cmd f (b .shape) so y) in
         let w = x .1 .file-placed .is in
         record {
           reference = value q;
@@ -547,24 +550,24 @@ fmm-done img s cmd buf f y b = came img s cmd buf f b R (fmm img s f (dataOf cmd
           by-id = d;
         }
 
-    by-reference : (q : Span) → readReference (dataOf cmd) ≡ Refers q → (p1 ≡ 0 → ⊥) → Came img s (dataOf cmd) buf R (fmmFile img s p2 (value q))
+    by-reference : (q : Span) → readReference (dataOf ch cmd) ≡ Refers q → (p1 ≡ 0 → ⊥) → Came img s (dataOf ch cmd) buf R (fmmFile img s p2 (value q))
     by-reference q e n =
         unfold fmmFile in
         let v = value q in
-        ifElse-ind (Came img s (dataOf cmd) buf R) (eqb (length v) 1)
-        (λ l. inOrder-each (Came img s (dataOf cmd) buf R) _ _ (word 0x6A80 refl, tt)
+        ifElse-ind (Came img s (dataOf ch cmd) buf R) (eqb (length v) 1)
+        (λ l. inOrder-each (Came img s (dataOf ch cmd) buf R) _ _ (word 0x6A80 refl, tt)
         (λ p. report (Short (getD v 0 0 / 8)) (λ z. absurd (n z))
         (λ _. refers q e (Short (getD v 0 0 / 8)) (λ _. (eqb-true (getD v 0 0 % 8) 0 (p .0), refl)) (λ t. absurd (omega (arith, t, eqb-true (length v) 1 l))))))
         (λ l. report (Id (idIn v)) (λ z. absurd (n z)) (λ _. refers q e (Id (idIn v)) (λ t. absurd (eqb-false (length v) 1 l t)) (λ _. refl)))
 
-    data-field : (r : Reference) → readReference (dataOf cmd) ≡ r → (p1 ≡ 0 → ⊥) → Came img s (dataOf cmd) buf R (fmmBy img s p2 (dataOf cmd) r)
+    data-field : (r : Reference) → readReference (dataOf ch cmd) ≡ r → (p1 ≡ 0 → ⊥) → Came img s (dataOf ch cmd) buf R (fmmBy img s p2 (dataOf ch cmd) r)
     data-field NoReference e n = word 0x6A80 refl
     data-field (Refers q) e n = by-reference q e n
 
-    tests : Came img s (dataOf cmd) buf R (fmm img s f (dataOf cmd))
+    tests : Came img s (dataOf ch cmd) buf R (fmm img s f (dataOf ch cmd))
     tests =
         unfold fmm in
-        inOrder-each (Came img s (dataOf cmd) buf R) _ _ (word 0x6A86 refl, (word 0x6A86 refl, (word 0x6700 refl, (word 0x6700 refl, tt))))
-        (λ p. ifElse-ind (Came img s (dataOf cmd) buf R) (eqb p1 0)
+        inOrder-each (Came img s (dataOf ch cmd) buf R) _ _ (word 0x6A86 refl, (word 0x6A86 refl, (word 0x6700 refl, (word 0x6700 refl, tt))))
+        (λ p. ifElse-ind (Came img s (dataOf ch cmd) buf R) (eqb p1 0)
         (λ z. report Current (λ _. refl) (λ n. absurd (n (eqb-true p1 0 z))))
-        (λ z. data-field (readReference (dataOf cmd)) refl (eqb-false p1 0 z)))
+        (λ z. data-field (readReference (dataOf ch cmd)) refl (eqb-false p1 0 z)))

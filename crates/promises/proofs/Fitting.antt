@@ -8,6 +8,7 @@ use native.Mathlib.Omega.{arith}
 use lib.ListN.{length, getD, length-append}
 use lib.Dec.{leb, eqb}
 use borrow.Author.Tests.{eqb-true, leb-true, le-leb, le-ltb}
+use Rattle.machine_chain.specs.Chain.{Chain, soFar}
 use Rattle.base.specs.Choice.{allOf}
 use Rattle.base.specs.Bytes.{part}
 use Rattle.base.proofs.Cases.{by-cases, ifElse-ind, false-true, and-left, and-right, allOf-facts, allOf-accepted}
@@ -41,15 +42,24 @@ use Rattle.machine_apdu.specs.declared.Apdu.{Apdu}
 use Rattle.machine_apdu.specs.declared.Apdu.the-variants.{Bad, Good}
 use Rattle.machine_apdu.specs.declared.Frame.{Frame}
 use Rattle.machine_record.specs.SearchRecord.{textIn, searchHits, searchStatus}
-use Rattle.machine_dispatch.specs.Decide.{decide, dataBy, dataOf}
+use Rattle.machine_dispatch.specs.Decide.{decide, dataBy, dataOf, chainOn, chainBy, chainBehind, wholeFrame}
 use Rattle.machine_action.specs.declared.Action.{Action}
 use Rattle.machine_action.specs.declared.Action.the-variants.{Status, SelectApplication, SelectFile, ReadBinary, UpdateBinary, Activate, AppendRecord, ReadRecord, SearchRecord, Report, ReadBinaryOdd}
-use Rattle.machine_dispatch.proofs.Allowing.{From, FromShape, decide-from}
+use Rattle.machine_dispatch.proofs.Allowing.{From, FromShape, decide-from, FromCourse}
 use Rattle.machine_reply_search.specs.Found.{matching, hits}
 use Rattle.machine_reply_search.proofs.Matching.{first-match, hits-first, none-hits}
 use Rattle.machine_answer.specs.Outcome.{Outcome, says}
 use Rattle.machine.specs.Effects.{searched, done}
-use Rattle.machine.specs.Step.{verdictOn, stepBy, step, opening}
+use Rattle.machine.specs.Step.{verdictOn, stepBy, step, opening, chainAfterBy, chainAfter}
+use Rattle.base.proofs.Parts.{length-part}
+use Rattle.machine_apdu.specs.Status.{normal, wrongLength}
+use Rattle.machine_apdu.proofs.Laws.{shape-facts}
+use Rattle.machine_action.specs.Tests.{lcOnly}
+use Rattle.machine_link.specs.Parameters.{parametersFit}
+use Rattle.machine_link.specs.Link.{turn, chainFits}
+use Rattle.machine_link.specs.declared.Course.{Course}
+use Rattle.machine_link.specs.declared.Course.the-variants.{Stops, Extends, Goes}
+use Rattle.machine_link.proofs.Turning.{Turned, joined, turn-told, extending-few}
 use Rattle.promises.specs.Calls.{Call, Command, afterCall, after, history}
 use Rattle.promises.specs.Promises.{Stays-accepted, Answer-fits, Opening-fits}
 use Rattle.promises.proofs.Growing.{accepts, call-grown, calls-held}
@@ -197,8 +207,8 @@ module _ (img : List ℕ) (s : Session) (e : sessionFits img s ≡ true) where
       (λ y. at-record r _ (f .own) (first-hit d r q (searched-some rs d q ne (eqb-true _ _ y))))
       (λ n. e)
 
-module _ (img : List ℕ) (s : Session) (cmd buf : List ℕ) (o : wellFormed img ≡ true) (e : sessionFits img s ≡ true) where
-  done-fits : (f : Frame) (x : Action) → let d = part cmd (f .from) (f .lc) in From img s f d x → Keeps img (done x img s d buf .image)
+module _ (img : List ℕ) (s : Session) (ch : Chain) (cmd buf : List ℕ) (o : wellFormed img ≡ true) (e : sessionFits img s ≡ true) where
+  done-fits : (f : Frame) (x : Action) → let d = (soFar ch ++ part cmd (f .from) (f .lc)) in From img s (wholeFrame ch f) d x → Keeps img (done x img s d buf .image)
       → sessionFits (done x img s d buf .image) (done x img s d buf .answer .session) ≡ true
   unfolding done says idOf
   done-fits f (Status w) h k = e
@@ -208,8 +218,8 @@ module _ (img : List ℕ) (s : Session) (cmd buf : List ℕ) (o : wellFormed img
   done-fits f (UpdateBinary n w) h k = fits-on k _ (at-set img s e (TransparentFile (Biometrics n)) (h .1 .file .file))
   done-fits f (Activate n) h k = fits-on k s e
   done-fits f (AppendRecord r) h k =
-      let d = part cmd (f .from) (f .lc) in
-      let l : length (recordsOf (appendTo img (r .kind) d) (r .kind)) ≡ length (recordsOf img (r .kind) ++ (d ∷ [])) = ap length (append-list img (r .kind) r d o (accepts img s cmd buf o d r (h .2))) in
+      let d = soFar ch ++ part cmd (f .from) (f .lc) in
+      let l : length (recordsOf (appendTo img (r .kind) d) (r .kind)) ≡ length (recordsOf img (r .kind) ++ (d ∷ [])) = ap length (append-list img (r .kind) r d o (accepts img s ch cmd buf o d r (h .2))) in
       let m = length-append (recordsOf img (r .kind)) (d ∷ []) in
       let own = h .2 .file .file .own in
       at-record _ s (fits-on k s e) r (count (body img (r .kind)) + 1) (same-file k (s .application) (r .id) (ap isKnown own) ∙ own)
@@ -222,22 +232,59 @@ module _ (img : List ℕ) (s : Session) (cmd buf : List ℕ) (o : wellFormed img
   done-fits f (Report g p2) h k = at-set img s e g (h .1 .file)
   done-fits f (ReadBinaryOdd t a n) h k = at-set img s e (TransparentFile t) (h .1 .file)
 
-  shape-fits : (a : Apdu) (x : Action) → FromShape img s cmd a x → Keeps img (done x img s (dataBy cmd a) buf .image)
-      → sessionFits (done x img s (dataBy cmd a) buf .image) (done x img s (dataBy cmd a) buf .answer .session) ≡ true
-  unfolding done says
-  shape-fits Bad x h k = ap (λ (y : Action). sessionFits (done y img s [] buf .image) (done y img s [] buf .answer .session)) h ∙ e
-  shape-fits (Good f) x h k = done-fits f x h k
+  abbrev Fits : List ℕ → Action → Type 0
+  Fits d x = sessionFits (done x img s d buf .image) (done x img s d buf .answer .session) ≡ true
 
-  stepBy-fits : (x : Verdict) → Keeps img (stepBy x img s cmd buf .image) → sessionFits (stepBy x img s cmd buf .image) (stepBy x img s cmd buf .answer .session) ≡ true
+  worded-fits : (d : List ℕ) (w : ℕ) (x : Action) → x ≡ Status w → Fits d x
+  unfolding done says
+  worded-fits d w x h = ap (λ (y : Action). sessionFits (done y img s d buf .image) (done y img s d buf .answer .session)) h ∙ e
+
+  course-fits : (f : Frame) (k : Course) (x : Action) → let d = soFar ch ++ part cmd (f .from) (f .lc) in FromCourse k img s (wholeFrame ch f) d x → Keeps img (done x img s d buf .image) → Fits d x
+  course-fits f (Stops w) x h k = worded-fits _ w x (h .0)
+  course-fits f Extends x h k = worded-fits _ normal x h
+  course-fits f Goes x h k = done-fits f x h k
+
+  shape-fits : (a : Apdu) (x : Action) → FromShape img s ch cmd a x → Keeps img (done x img s (dataBy ch cmd a) buf .image) → Fits (dataBy ch cmd a) x
+  shape-fits Bad x h k = worded-fits [] wrongLength x h
+  shape-fits (Good f) x h k = course-fits f (turn ch f) x h k
+
+  stepBy-fits : (x : Verdict) → Keeps img (stepBy x img s ch cmd buf .image) → sessionFits (stepBy x img s ch cmd buf .image) (stepBy x img s ch cmd buf .answer .session) ≡ true
   unfolding stepBy dataOf
-  stepBy-fits Accepted k = shape-fits (shapeOf cmd) (decide img s cmd) (decide-from img s cmd) k
+  stepBy-fits Accepted k = shape-fits (shapeOf cmd) (decide img s ch cmd) (decide-from img s ch cmd) k
   stepBy-fits (Refused r) k = e
+
+-- the chain that a command leaves is one that links can have left
+turned-fits : (ch : Chain) (f : Frame) (d : List ℕ) (k : Course) → length d ≡ f .lc → Turned ch f k → chainFits (chainOn k ch f d) ≡ true
+turned-fits ch f d (Stops w) l t = refl
+turned-fits ch f d Goes l t = refl
+turned-fits ch f d Extends l (joined x) =
+    unfold lcOnly in
+    let n = length-append (soFar ch) d in
+    let m = leb-true 1 (f .lc) (allOf-facts (leb 1 (f .lc) ∷ eqb (f .le) 0 ∷ []) (x .some) .0) in
+    let w = extending-few ch f x in
+    allOf-accepted (leb 1 (length (soFar ch ++ d)) ∷ leb (length (soFar ch ++ d)) 1024 ∷ parametersFit (f .header .ins) (f .header .p1) (f .header .p2) ∷ [])
+    (le-leb 1 (length (soFar ch ++ d)) (omega (arith, n, m, l)), (le-leb (length (soFar ch ++ d)) 1024 (omega (arith, n, l, w)), (x .parameters, tt)))
+
+pub chain-fits : (img : List ℕ) (s : Session) (ch : Chain) (cmd : List ℕ) (n : ℕ) → chainFits ch ≡ true → chainFits (chainAfter img s ch cmd n) ≡ true
+unfolding chainAfter chainBehind
+chain-fits img s ch cmd n e = by-verdict (verdictOn img s ch n)
+  where
+    by-shape : (a : Apdu) → shapeOf cmd ≡ a → chainFits (chainBy ch cmd a) ≡ true
+    by-shape Bad z = refl
+    by-shape (Good f) z =
+        turned-fits ch f (part cmd (f .from) (f .lc)) (turn ch f) (length-part cmd (f .from) (f .lc) (shape-facts cmd (shapeOf cmd) f refl z .inside)) (turn-told ch f)
+
+    by-verdict : (v : Verdict) → chainFits (chainAfterBy v ch cmd) ≡ true
+    by-verdict Accepted = by-shape (shapeOf cmd) refl
+    by-verdict (Refused r) = e
 
 pub answer-fits : Answer-fits
 unfolding step afterCall
-answer-fits img s cmd buf o e =
-    let g = call-grown img (Command s cmd buf) o in
-    stepBy-fits img s cmd buf o e (verdictOn img s (length buf)) (record { files = g .files; counts = λ k b. more-records img _ k _ (g .records k b) })
+answer-fits img s ch cmd buf o e z =
+    let g = call-grown img (Command s ch cmd buf) o in (
+      stepBy-fits img s ch cmd buf o e (verdictOn img s ch (length buf)) (record { files = g .files; counts = λ k b. more-records img _ k _ (g .records k b) }),
+      chain-fits img s ch cmd (length buf) z,
+    )
 
 -- a session that fits still fits after any call
 pub call-fits : (img : List ℕ) (c : Call) (t : Session) → wellFormed img ≡ true → sessionFits img t ≡ true → sessionFits (afterCall img c) t ≡ true
@@ -246,11 +293,11 @@ call-fits img c t o e =
     fits-on (record { files = g .files; counts = λ k b. more-records img _ k _ (g .records k b) }) t e
 
 pub stays-accepted : Stays-accepted
-unfolding verdict verdictNumber history
-stays-accepted img calls s n o e l =
+unfolding verdict verdictNumber history allOf
+stays-accepted img calls s ch n o e z l =
     let h = calls-held img calls o in
     let k : Keeps img (after img calls) = record { files = h .files; counts = λ k b. more-records img _ k _ (h .records k b) } in
-    simp (le-ltb n 2050 l, h .well, fits-on k s e)
+    simp (le-ltb n 2050 l, h .well, fits-on k s e, z)
 
 pub opening-fits : Opening-fits
 unfolding opening opened sessionFits applicationFits placeFits allOf

@@ -9,6 +9,7 @@ use native.Mathlib.Nat.{add-zero, add-suc}
 use lib.ListN.{length, take, drop, set, length-set}
 use lib.Seq.{set-append-left, length-take-le}
 use borrow.Author.Tests.{eq-eqb}
+use Rattle.machine_chain.specs.Chain.{Chain}
 use Rattle.base.specs.Bytes.{splice}
 use Rattle.base.proofs.Cases.{false-true}
 use Rattle.base.proofs.Parts.{length-part, splice-same}
@@ -44,15 +45,15 @@ use Rattle.machine_action.specs.declared.Action.the-variants.{Status, Activate}
 use Rattle.machine_binary.specs.Activate.{activateFile}
 use Rattle.machine_dispatch.specs.Decide.{byIns, byClass, decide, dataOf}
 use Rattle.machine.specs.Step.{step}
-use Rattle.machine.proofs.Accepting.{Known, verdict-accepted}
 use Rattle.machine_cut.specs.Cutting.{storing}
 use Rattle.machine_cut.specs.declared.Storage.{Storage}
 use Rattle.machine_cut.specs.declared.Storage.the-variants.{To, Nothing}
-use Rattle.promises.specs.Calls.{isPair}
+use Rattle.machine_link.specs.Link.{isCommand}
+use Rattle.promises.specs.Calls.{isPair, wholeOf}
 use Rattle.promises.specs.Cuts.{appendList, AppendCut, Append-in-order, ActivateCut, Activate-in-order}
 use Rattle.promises.proofs.Naming.{record-meant, record-listed, p2-meant, kind-meant, biometrics-writes}
-use Rattle.promises.proofs.Answering.{status-accepted}
-use Rattle.promises.proofs.Deciding.{pair-facts, class-decided}
+use Rattle.promises.proofs.Answering.{status-accepted, accepted-room}
+use Rattle.promises.proofs.Whole.{pair-facts, class-decided}
 use Rattle.promises.proofs.Cuts.{p2-of, Cutting, append-cut, activate-cut, no-cut, cutting, append-or-activate}
 
 -- ---- a store in the middle of a list
@@ -167,24 +168,24 @@ module _ (img : List ℕ) (k s m : ℕ) (e : find img k ≡ At s m) (d : List �
       low = unfold used in place-low b (count b)
 
 -- 9000 needs a buffer that is long enough
-enough : (img : List ℕ) (s : Session) (cmd buf : List ℕ) → step img s cmd buf .answer .status ≡ 0x9000 → 2050 ≤ length buf
-enough img s cmd buf w = subst (Known img (length buf)) (status-accepted img s cmd buf w) (verdict-accepted img (sessionFits img s) (length buf)) .1
+enough : (img : List ℕ) (s : Session) (ch : Chain) (cmd buf : List ℕ) → step img s ch cmd buf .answer .status ≡ 0x9000 → 2050 ≤ length buf
+enough img s ch cmd buf w = accepted-room img s ch buf (status-accepted img s ch cmd buf w)
 
 pub append-in-order : Append-in-order
-append-in-order img s cmd buf f n z p w = go (cutting img s cmd n buf long)
+append-in-order img s ch cmd buf f n z p w = go (cutting img s ch cmd n buf long)
   where
     long : 2050 ≤ length buf
-    long = enough img s cmd buf w
+    long = enough img s ch cmd buf w
 
-    go : Cutting img s cmd n buf long → AppendCut img s cmd f n
+    go : Cutting img s ch cmd n buf long → AppendCut img s ch cmd f n
     go (append-cut o q r e a c i u) = by (stands-at img (r .kind) (a .stands))
       where
         e′ : resolveRecord img s Append (orCurrent (f .header .p2 / 8)) ≡ RecordAt r
         e′ = subst (λ (x : Apdu). resolveRecord img s Append (orCurrent (p2-of x)) ≡ RecordAt r) z e
 
-        by : Stands img (r .kind) → AppendCut img s cmd f n
+        by : Stands img (r .kind) → AppendCut img s ch cmd f n
         by (stands at-s m h) =
-            let t = append-accepted img (r .kind) r (dataOf cmd) o a in
+            let t = append-accepted img (r .kind) r (dataOf ch cmd) o a in
             record {
               kind = r .kind;
               start = at-s;
@@ -193,21 +194,21 @@ append-in-order img s cmd buf f n z p w = go (cutting img s cmd n buf long)
                   (p2-meant s (f .header .p2 / 8) (RecordFile r) ∙ record-meant img s Append (orCurrent (f .header .p2 / 8)) r e′) (r .kind)
                   ∙ eq-eqb (r .kind) (r .kind) refl;
               stands = h;
-              stored = i ∙ in-image img (r .kind) at-s m h n Record (dataOf cmd) (record-within img (r .kind) at-s m h (dataOf cmd) t)
-                  ∙ ap (λ (ss : List Store). made (take n ss) img) (record-list img (r .kind) at-s m h (dataOf cmd) t);
+              stored = i ∙ in-image img (r .kind) at-s m h n Record (dataOf ch cmd) (record-within img (r .kind) at-s m h (dataOf ch cmd) t)
+                  ∙ ap (λ (ss : List Store). made (take n ss) img) (record-list img (r .kind) at-s m h (dataOf ch cmd) t);
             }
-    go (activate-cut o q b e r c i u t) = absurd (omega (arith, append-or-activate img s cmd n buf long f 0x44 0xE2 z q p))
+    go (activate-cut o q b e r c i u t) = absurd (omega (arith, append-or-activate img s ch cmd n buf long f 0x44 0xE2 z q p))
     go (no-cut m i x y) = absurd (x f z p w)
 
 -- ---- an activation
 
 -- an ACTIVATE that is decided is of the current file
-activate-current : (img : List ℕ) (s : Session) (cmd : List ℕ) (f : Frame) (j : ℕ) → shapeOf cmd ≡ Good f → isPair f 0x00 0x44 ≡ true → decide img s cmd ≡ Activate j
+activate-current : (img : List ℕ) (s : Session) (ch : Chain) (cmd : List ℕ) (f : Frame) (j : ℕ) → wholeOf ch cmd ≡ Good f → isPair f 0x00 0x44 ≡ true → decide img s ch cmd ≡ Activate j
     → resolveBiometrics img s Current ≡ BiometricsAt j
-activate-current img s cmd f j z p e = tests (sym led ∙ e)
+activate-current img s ch cmd f j z p e = tests (sym led ∙ e)
   where
-    led : decide img s cmd ≡ activateFile img s f
-    led = let h = pair-facts f 0x00 0x44 p in class-decided cmd f z img s ∙ (unfold byClass byIns in simp (h .0, h .1))
+    led : decide img s ch cmd ≡ activateFile img s f
+    led = let h = pair-facts f 0x00 0x44 p in class-decided ch cmd f z 0x00 0x44 p refl refl (unfold isCommand in refl) img s ∙ (unfold byClass byIns in simp (h .0, h .1))
 
     -- whatever is decided, an activation of j is that of the file resolved
     P : Action → Type 0
@@ -228,13 +229,13 @@ activate-current img s cmd f j z p e = tests (sym led ∙ e)
     tests = unfold activateFile in inOrder-each P _ _ (word 0x6A86, (word 0x6700, tt)) (λ q. on (resolveBiometrics img s Current) refl)
 
 pub activate-in-order : Activate-in-order
-activate-in-order img s cmd buf f n z p w = go (cutting img s cmd n buf long)
+activate-in-order img s ch cmd buf f n z p w = go (cutting img s ch cmd n buf long)
   where
     long : 2050 ≤ length buf
-    long = enough img s cmd buf w
+    long = enough img s ch cmd buf w
 
-    go : Cutting img s cmd n buf long → ActivateCut img s cmd n
-    go (append-cut o q r e a c i u) = absurd (omega (arith, append-or-activate img s cmd n buf long f 0xE2 0x44 z q p))
+    go : Cutting img s ch cmd n buf long → ActivateCut img s ch cmd n
+    go (append-cut o q r e a c i u) = absurd (omega (arith, append-or-activate img s ch cmd n buf long f 0xE2 0x44 z q p))
     go (activate-cut o q b e r c i u t) = by (stands-at img k (r .file .ok .stands))
       where
         k : ℕ
@@ -243,24 +244,24 @@ activate-in-order img s cmd buf f n z p w = go (cutting img s cmd n buf long)
         ok : bioOk (body img k) ≡ true
         ok = biometrics-file img k o (r .file .ok .kind) (r .file .ok .stands)
 
-        within : (q m : ℕ) → find img k ≡ At q m → Within m (stores State (body img k) (dataOf cmd))
+        within : (q m : ℕ) → find img k ≡ At q m → Within m (stores State (body img k) (dataOf ch cmd))
         within q m h =
             unfold stores in
             let l = biometrics-facts (body img k) ok .long in
             let nought : 0 < m = omega (arith, l, body-size img k q m h) in
             simp ok (more nought none)
 
-        alone : (q : ℕ) → shifted q (stores State (body img k) (dataOf cmd)) ≡ at q 1 ∷ []
+        alone : (q : ℕ) → shifted q (stores State (body img k) (dataOf ch cmd)) ≡ at q 1 ∷ []
         alone q = unfold stores shifted in simp ok (ap (λ (j : ℕ). at j 1 ∷ []) (add-zero q))
 
-        by : Stands img k → ActivateCut img s cmd n
+        by : Stands img k → ActivateCut img s ch cmd n
         by (stands at-s m h) =
             record {
               number = b;
               start = at-s;
               room = m;
-              of-current = biometrics-writes img s Current b (activate-current img s cmd f b z p e) r;
+              of-current = biometrics-writes img s Current b (activate-current img s ch cmd f b z p e) r;
               stands = h;
-              stored = i ∙ in-image img k at-s m h n State (dataOf cmd) (within at-s m h) ∙ ap (λ (ss : List Store). made (take n ss) img) (alone at-s);
+              stored = i ∙ in-image img k at-s m h n State (dataOf ch cmd) (within at-s m h) ∙ ap (λ (ss : List Store). made (take n ss) img) (alone at-s);
             }
     go (no-cut m i x y) = absurd (y f z p w)

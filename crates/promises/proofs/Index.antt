@@ -32,9 +32,10 @@ use Rattle.machine_apdu.specs.Shape.{shapeOf}
 use Rattle.machine_apdu.specs.declared.Apdu.{Apdu}
 use Rattle.machine_apdu.specs.declared.Apdu.the-variants.{Bad, Good}
 use Rattle.machine_apdu.specs.declared.Frame.{Frame}
+use Rattle.machine_chain.specs.Chain.{Chain, soFar}
 use Rattle.machine_answer.specs.Outcome.{Outcome}
 use Rattle.machine_session_bytes.specs.Layout.{sessionIn}
-use Rattle.malquindo.specs.Face.{called, calledCut, indexResult}
+use Rattle.malquindo.specs.Face.{chainOfC, called, calledCut, indexResult}
 use Rattle.promises.specs.Files.{isMeantRow, isMeantKind}
 use Rattle.promises.specs.Calls.{isPair, addedBy}
 use Rattle.promises.specs.Promises.{dataIn, Reads}
@@ -182,20 +183,20 @@ one-or-none : (t : Bool) (d : List ℕ) → length (ifElse t (d ∷ []) []) ≤ 
 one-or-none true d = omega arith
 one-or-none false d = omega arith
 
-addedBy-few : (k : ℕ) (s : Session) (cmd : List ℕ) (w : ℕ) (a : Apdu) → length (addedBy k s cmd w a) ≤ 1
-addedBy-few k s cmd w Bad = omega arith
-addedBy-few k s cmd w (Good f) =
-    one-or-none (allOf (isPair f 0x00 0xE2 ∷ eqb w 0x9000 ∷ isMeantKind s (f .header .p2 / 8) k ∷ [])) (part cmd (f .from) (f .lc))
+addedBy-few : (k : ℕ) (s : Session) (ch : Chain) (cmd : List ℕ) (w : ℕ) (a : Apdu) → length (addedBy k s ch cmd w a) ≤ 1
+addedBy-few k s ch cmd w Bad = omega arith
+addedBy-few k s ch cmd w (Good f) =
+    one-or-none (allOf (isPair f 0x00 0xE2 ∷ eqb w 0x9000 ∷ isMeantKind s (f .header .p2 / 8) k ∷ [])) (soFar ch ++ part cmd (f .from) (f .lc))
 
 -- a call adds one record or none
 added-few : (k : ℕ) (img : List ℕ) (c : CCall) → length (addedC k img c) ≤ 1
 unfolding addedC
 added-few k img (OpenC rights ses) = omega arith
-added-few k img (CommandC ses cmd buf) = addedBy-few k (sessionIn ses) cmd (statusIn (called img ses cmd buf .result)) (shapeOf cmd)
+added-few k img (CommandC ses cmd buf) = addedBy-few k (sessionIn ses) (chainOfC ses) cmd (statusIn (called img ses cmd buf .result)) (shapeOf cmd)
 added-few k img (MoveC list t) = omega arith
 added-few k img (CutC ses cmd n) =
     let m = cutStoresIn (calledCut img ses cmd n .result) in
-    ifElse-ind (λ (l : List (List ℕ)). length l ≤ 1) (allOf (leb 1 m ∷ leb m n ∷ [])) (λ t. addedBy-few k (sessionIn ses) cmd 0x9000 (shapeOf cmd)) (λ t. omega arith)
+    ifElse-ind (λ (l : List (List ℕ)). length l ≤ 1) (allOf (leb 1 m ∷ leb m n ∷ [])) (λ t. addedBy-few k (sessionIn ses) (chainOfC ses) cmd 0x9000 (shapeOf cmd)) (λ t. omega arith)
 
 -- two indexes with the same list and as many places
 kept-same : {l m : List ℕ} {i j : ℕ} → l ≡ m → i ≡ j → _≡_ {A = CallerIndex} (record { entries = l; filled = i }) (record { entries = m; filled = j })
@@ -336,12 +337,12 @@ meant-records s x k m =
     (λ b. b)
 
 pub c-index-replies : C-index-replies
-c-index-replies k img ps calls ses cmd buf f o h room bytes e p one m w =
+c-index-replies k img ps calls ses cmd buf f o h room sb bytes e p one m w =
     let s = sessionIn ses in
     let u = seen (called (afterC img calls) ses cmd buf) in
     let x = indexAfterC k img (builtC k img ps) calls in
     let xs = lentBody (afterC img calls) k in
-    let q = c-reads-history img calls ses cmd buf f o bytes e p w in
+    let q = c-reads-history img calls ses cmd buf f o sb bytes e p w in
     let kind : q .rule .kind ≡ k = eqb-true _ _ (sym (kind-meant s (f .header .p2 / 8) (q .rule) (q .permitted .listed) (q .meant) k) ∙ m) in
     let rs : historyC (q .rule .kind) img calls ≡ historyC k img calls = ap (λ (j : ℕ). historyC j img calls) kind in
     let told : dataIn u ≡ nth (historyC k img calls) (q .number) = q .one one ∙ ap (λ (l : List (List ℕ)). nth l (q .number)) rs in

@@ -1,5 +1,6 @@
 -- Proofs of the promises: the theorems are in Promises.
 pub mod Naming
+pub mod Whole
 pub mod Keeping
 pub mod Wording
 pub mod Opening
@@ -24,4 +25,5 @@ pub mod Certificates
 pub mod Index
 pub mod Stamps
 pub mod Rights
+pub mod Links
 pub mod Promises

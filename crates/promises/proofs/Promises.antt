@@ -5,6 +5,7 @@ use Rattle.promises.specs.Done.{Append-done, Update-done, Activate-done,
 use Rattle.promises.specs.Binary.{Both-reads, Odd-reaches}
 use Rattle.promises.specs.Linked.{C-sees, C-malformed, C-says-no, C-gets-word, C-holds, C-number-kept, C-reads-history, C-leaves-none-out, C-opens, C-moves}
 use Rattle.promises.specs.Cuts.{Cut-stores, Cut-leaves, Append-in-order, Activate-in-order, Room-used, C-cuts}
+use Rattle.promises.specs.Links.{Link-answered, Goes-on, Links-as-whole}
 use Rattle.promises.specs.Bodies.{C-file, C-file-stays}
 use Rattle.promises.specs.Certificates.{C-certificate, C-certificate-kept}
 use Rattle.promises.specs.Index.{C-index-builds, C-index-extends, C-index-reads, C-index-kept, C-index-room, C-index-replies}
@@ -27,6 +28,7 @@ use Rattle.promises.proofs.Fitting as fitting
 use Rattle.promises.proofs.Cuts as cuts
 use Rattle.promises.proofs.InOrder as in-order
 use Rattle.promises.proofs.Room as room
+use Rattle.promises.proofs.Links as links
 use Rattle.promises.proofs.Linking as linking
 use Rattle.promises.proofs.Calling as calling
 use Rattle.promises.proofs.Bodies as bodies
@@ -172,6 +174,15 @@ room-used = room.room-used
 
 pub c-cuts : C-cuts
 c-cuts = calling.c-cuts
+
+pub link-answered : Link-answered
+link-answered = links.link-answered
+
+pub goes-on : Goes-on
+goes-on = links.goes-on
+
+pub links-as-whole : Links-as-whole
+links-as-whole = links.links-as-whole
 
 pub c-file : C-file
 c-file = bodies.c-file

@@ -8,6 +8,7 @@ use lib.ListN.{length, take}
 use lib.Seq.{take-all}
 use lib.Dec.{leb, eqb}
 use borrow.Author.Tests.{eqb-true, eq-eqb, ne-eqb, leb-true, ltb-true}
+use Rattle.machine_chain.specs.Chain.{Chain}
 use Rattle.base.specs.Choice.{ifElse, allOf}
 use Rattle.base.specs.Bytes.{part}
 use Rattle.base.proofs.Cases.{by-cases, ifElse-ind, false-true, allOf-facts}
@@ -43,6 +44,8 @@ use Rattle.machine.specs.Effects.{done}
 use Rattle.machine.specs.Step.{step}
 use Rattle.promises.specs.Calls.{after, isPair, history}
 use Rattle.promises.specs.Promises.{dataIn, Reads, Reads-history}
+use Rattle.machine_link.specs.Link.{isCommand}
+use Rattle.promises.proofs.Whole.{whole-from}
 use Rattle.promises.proofs.Answering.{data-said, step-accepted, accepted-room, status-accepted}
 use Rattle.promises.proofs.Growing.{calls-held}
 use Rattle.promises.proofs.Naming.{record-meant, record-permitted, p2-meant}
@@ -76,9 +79,9 @@ record-named s r p n e = (
         (λ t h. let y : m ≡ n = cc in ap₂ OnRecord (eqb-true j (r .id) t) y)
         (λ t h. no h)
 
-module _ (img : List ℕ) (s : Session) (cmd buf : List ℕ) (f : Frame) (o : wellFormed img ≡ true) (room : 2050 ≤ length buf) where
+module _ (img : List ℕ) (s : Session) (ch : Chain) (cmd buf : List ℕ) (f : Frame) (o : wellFormed img ≡ true) (room : 2050 ≤ length buf) where
   abbrev d : List ℕ
-  d = part cmd (f .from) (f .lc)
+  d = dataOf ch cmd
 
   -- one record is shorter than the cut
   whole : (r : Rule) (n : ℕ) → Stored img r → 1 ≤ n → n ≤ count (body img (r .kind)) → recordsData (recordsOf img (r .kind)) n n ≡ nth (recordsOf img (r .kind)) n
@@ -146,13 +149,12 @@ module _ (img : List ℕ) (s : Session) (cmd buf : List ℕ) (f : Frame) (o : we
   read-decided rs same q (ReadBinaryOdd t a n) h e = other 0x00 0xB1 (h .0) q refl
 
 pub reads-history : Reads-history
-reads-history img calls s cmd buf f o e q t =
+reads-history img calls s ch cmd buf f o e q t =
     let now = after img calls in
     let h = calls-held img calls o in
-    let x = status-accepted now s cmd buf t in
-    let u : step now s cmd buf ≡ done (decide now s cmd) now s (part cmd (f .from) (f .lc)) buf =
-    step-accepted now s cmd buf x ∙ ap (λ (l : List ℕ). done (decide now s cmd) now s l buf) (unfold dataOf in ap (dataBy cmd) e) in
-    let c : From now s f (part cmd (f .from) (f .lc)) (decide now s cmd) = subst (λ (a : Apdu). FromShape now s cmd a (decide now s cmd)) e (decide-from now s cmd) in
+    let x = status-accepted now s ch cmd buf t in
+    let u : step now s ch cmd buf ≡ done (decide now s ch cmd) now s (dataOf ch cmd) buf = step-accepted now s ch cmd buf x in
     subst (Reads s f (λ k. history k img calls)) (sym u)
-    (read-decided now s cmd buf f (h .well) (accepted-room now s buf x) (λ k. history k img calls) (h .records) q (decide now s cmd) c
-    (sym (ap (λ (z : Outcome). z .answer .status) u) ∙ t))
+    (read-decided now s ch cmd buf f (h .well) (accepted-room now s ch buf x) (λ k. history k img calls) (h .records) q (decide now s ch cmd)
+    (whole-from ch cmd f e 0x00 0xB2 q refl refl (unfold isCommand in refl) now s)
+    (sym (ap (λ (v : Outcome). v .answer .status) u) ∙ t))

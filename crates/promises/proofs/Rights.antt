@@ -7,10 +7,10 @@ use mathlib.Core.Bool.{true, false, and-true, and-false}
 use mathlib.Core.Logic.{_⊎_, inl, inr, ⊎-elim}
 use mathlib.Core.List.{List, [], _∷_, _++_, append-assoc, append-nil}
 use native.Mathlib.Omega.{arith}
-use lib.ListN.{length, getD, take, drop, replicate, length-append, length-take}
+use lib.ListN.{length, getD, take, drop, replicate, length-append, length-replicate, length-take}
 use lib.Seq.{sets, take-at, drop-at}
 use lib.Dec.{ltb, lit<}
-use borrow.Author.Tests.{lt-ltb, le-ltb, ltb-true, ltb-false, eqb-true}
+use borrow.Author.Tests.{le-leb, lt-ltb, le-ltb, ltb-true, ltb-false, eqb-true}
 use Rattle.base.specs.Choice.{allOf}
 use Rattle.base.specs.Bytes.{AllBytes, part, sameBytes, put}
 use Rattle.base.proofs.Cases.{by-cases}
@@ -31,8 +31,10 @@ use Rattle.machine_rights.proofs.Laws.{not-sixty, unflagged-records, unflagged-
 use Rattle.machine_session.specs.Session.{opened}
 use Rattle.machine_session.specs.declared.Place.the-variants.{Nowhere}
 use Rattle.machine_session_bytes.specs.Layout.{placeBytes, sessionBytes, sessionIn}
+use Rattle.machine_chain.specs.Chain.{NoChain}
+use Rattle.machine_chain.specs.Layout.{noChainBytes}
 use Rattle.machine.specs.Step.{opening}
-use Rattle.malquindo.specs.Face.{rightsResult, openSession}
+use Rattle.malquindo.specs.Face.{wholeBytes, takesSession, openedIn, rightsResult, openSession}
 use Rattle.promises.specs.Linked.{refusalIn}
 use Rattle.promises.specs.Rights.{RightsC, C-rights, CertificateFor, C-rights-read, NoRight, C-rights-refused}
 use Rattle.promises.proofs.Opening.{zeros}
@@ -178,20 +180,21 @@ left-by f s t buf e =
     (λ h. let g = ltb-true (length buf) 60 h in inr (λ l. let m = ap (λ (x : List ℕ). length (take 60 x)) (into-short f s t buf g) in let k = length-take 60 buf in omega (arith, g)))
     (λ h. inl (zeros-written f s t buf (ltb-false (length buf) 60 h) e))
 
-module _ (c : List ℕ) (e : effective c ≡ noRights) (ses : List ℕ) (h : 25 ≤ length ses) where
+module _ (c : List ℕ) (e : effective c ≡ noRights) (ses : List ℕ) (h : 1054 ≤ length ses) where
   none-opened : opened c ≡ record { rights = noRights; application = 0; place = Nowhere }
   unfolding opened
   none-opened = rw e refl
 
-  none-bytes : sessionBytes (opened c) ≡ replicate 25 0
-  unfolding sessionBytes placeBytes noRights
+  none-bytes : wholeBytes (opened c) NoChain ≡ replicate 1054 0
+  unfolding wholeBytes sessionBytes placeBytes noRights noChainBytes
   none-bytes = rw none-opened refl
 
-  none-written : take 25 (openSession c ses) ≡ replicate 25 0
-  unfolding openSession opening
+  none-written : take 1054 (openSession c ses) ≡ replicate 1054 0
+  unfolding openSession openedIn takesSession opening
   none-written =
-      let b : put ses 0 (sessionBytes (opened c)) ≡ sets ses 0 (replicate 25 0) = rw none-bytes (put-accepted ses 0 (replicate 25 0) h) in
-      ap (take 25) b ∙ part-sets ses 0 (replicate 25 0) h
+      let n : length {A = ℕ} (replicate 1054 0) ≡ 1054 = length-replicate {A = ℕ} 1054 0 in
+      let b : put ses 0 (wholeBytes (opened c) NoChain) ≡ sets ses 0 (replicate 1054 0) = rw none-bytes (put-accepted ses 0 (replicate 1054 0) (omega arith)) in
+      rw (le-leb 1054 (length ses) h) (ap (take 1054) b ∙ rw n at (part-sets ses 0 (replicate 1054 0) (omega arith)))
 
   none-read : sessionIn (openSession c ses) ≡ record { rights = noRights; application = 0; place = Nowhere }
   unfolding opening

@@ -7,6 +7,7 @@ use native.Mathlib.Omega.{arith}
 use lib.ListN.{length, replicate}
 use lib.Dec.{eqb, leb}
 use borrow.Author.Tests.{eqb-true, eqb-false}
+use Rattle.machine_chain.specs.Chain.{Chain}
 use Rattle.base.specs.Choice.{ifElse, allOf}
 use Rattle.base.proofs.Cases.{by-cases}
 use Rattle.base.proofs.Parts.{length-part}
@@ -54,11 +55,12 @@ use Rattle.machine_dispatch.proofs.Allowing.{Pair, From, FromShape, decide-from
 use Rattle.machine_answer.specs.Outcome.{Outcome, answered, says}
 use Rattle.machine_answer.specs.declared.Answer.{Answer}
 use Rattle.machine.specs.Effects.{done}
-use Rattle.machine.specs.Step.{stepBy, step}
+use Rattle.machine.specs.Step.{stepBy, step, verdictOn}
 use Rattle.machine_cut.specs.Cutting.{cut}
-use Rattle.promises.specs.Calls.{Command, afterCall, isPair, addedBy, added}
+use Rattle.machine_link.specs.Link.{isCommand}
+use Rattle.promises.specs.Calls.{Command, afterCall, isPair, addedBy, added, wholeOf}
 use Rattle.promises.specs.Cuts.{Room-used}
-use Rattle.promises.proofs.Deciding.{pair-facts, data-is, class-decided}
+use Rattle.promises.proofs.Whole.{pair-facts, class-decided, whole-from}
 use Rattle.promises.proofs.Growing.{call-grown}
 use Rattle.promises.proofs.Cuts.{Cutting, append-cut, activate-cut, no-cut, cutting, long, cut-leaves}
 
@@ -157,16 +159,16 @@ module _ {img new : List ℕ} (t : Torn img new) where
       (onRecord x go)) (resolve-same s Append (orCurrent (f .header .p2 / 8))) (λ i r. appendOn-same (length d) r i)
 
 -- CLA 00 and INS E2 lead to APPEND RECORD
-append-led : (img : List ℕ) (s : Session) (cmd : List ℕ) (f : Frame) → shapeOf cmd ≡ Good f → isPair f 0x00 0xE2 ≡ true → decide img s cmd ≡ appendRecord img s f (dataOf cmd)
-unfolding byClass byIns
-append-led img s cmd f z p = let h = pair-facts f 0x00 0xE2 p in class-decided cmd f z img s ∙ simp (h .0, h .1)
+append-led : (img : List ℕ) (s : Session) (ch : Chain) (cmd : List ℕ) (f : Frame) → wholeOf ch cmd ≡ Good f → isPair f 0x00 0xE2 ≡ true → decide img s ch cmd ≡ appendRecord img s f (dataOf ch cmd)
+unfolding byClass byIns isCommand
+append-led img s ch cmd f z p = let h = pair-facts f 0x00 0xE2 p in class-decided ch cmd f z 0x00 0xE2 p refl refl refl img s ∙ simp (h .0, h .1)
 
 -- ---- what an append answers on both
 
-module _ {img new : List ℕ} (t : Torn img new) (o : wellFormed img ≡ true) (o′ : wellFormed new ≡ true) (s : Session) (cmd buf : List ℕ) (f : Frame)
-    (z : shapeOf cmd ≡ Good f) (p : isPair f 0x00 0xE2 ≡ true) where
+module _ {img new : List ℕ} (t : Torn img new) (o : wellFormed img ≡ true) (o′ : wellFormed new ≡ true) (s : Session) (ch : Chain) (cmd buf : List ℕ) (f : Frame)
+    (z : wholeOf ch cmd ≡ Good f) (p : isPair f 0x00 0xE2 ≡ true) where
   abbrev d : List ℕ
-  d = dataOf cmd
+  d = dataOf ch cmd
 
   abbrev Same : Outcome → Outcome → Type 0
   Same x y = (y .answer ≡ x .answer) × (y .buffer ≡ x .buffer)
@@ -188,75 +190,74 @@ module _ {img new : List ℕ} (t : Torn img new) (o : wellFormed img ≡ true) (
   done-same (Report g p2) h = not-append 0x80 0x5E (h .0) (λ c i. omega (arith, c))
   done-same (ReadBinaryOdd u a n) h = not-append 0x00 0xB1 (h .0) (λ c i. omega (arith, i))
 
-  decide-same : decide new s cmd ≡ decide img s cmd
-  decide-same = append-led new s cmd f z p ∙ append-same t s f d ∙ sym (append-led img s cmd f z p)
+  decide-same : decide new s ch cmd ≡ decide img s ch cmd
+  decide-same = append-led new s ch cmd f z p ∙ append-same t s f d ∙ sym (append-led img s ch cmd f z p)
 
-  from : From img s f d (decide img s cmd)
-  from =
-      subst (λ (l : List ℕ). From img s f l (decide img s cmd)) (sym (data-is cmd f z))
-      (subst (λ (a : Apdu). FromShape img s cmd a (decide img s cmd)) z (decide-from img s cmd))
+  from : From img s f d (decide img s ch cmd)
+  unfolding isCommand
+  from = whole-from ch cmd f z 0x00 0xE2 p refl refl refl img s
 
-  stepBy-same : (v : Verdict) → Same (stepBy v img s cmd buf) (stepBy v new s cmd buf)
+  stepBy-same : (v : Verdict) → Same (stepBy v img s ch cmd buf) (stepBy v new s ch cmd buf)
   unfolding stepBy
-  stepBy-same Accepted = subst (λ (x : Action). Same (done (decide img s cmd) img s d buf) (done x new s d buf)) (sym decide-same) (done-same (decide img s cmd) from)
+  stepBy-same Accepted = subst (λ (x : Action). Same (done (decide img s ch cmd) img s d buf) (done x new s d buf)) (sym decide-same) (done-same (decide img s ch cmd) from)
   stepBy-same (Refused r) = (refl, refl)
 
-  verdict-same : (n : ℕ) → verdict new (sessionFits new s) n ≡ verdict img (sessionFits img s) n
+  verdict-same : (n : ℕ) → verdictOn new s ch n ≡ verdictOn img s ch n
   unfolding verdict
   verdict-same n = rw (o, o′, session-same t s) refl
 
-  step-same : Same (step img s cmd buf) (step new s cmd buf)
+  step-same : Same (step img s ch cmd buf) (step new s ch cmd buf)
   unfolding step
   step-same =
-      subst (λ (v : Verdict). Same (stepBy (verdict img (sessionFits img s) (length buf)) img s cmd buf) (stepBy v new s cmd buf)) (sym (verdict-same (length buf)))
-      (stepBy-same (verdict img (sessionFits img s) (length buf)))
+      subst (λ (v : Verdict). Same (stepBy (verdictOn img s ch (length buf)) img s ch cmd buf) (stepBy v new s ch cmd buf)) (sym (verdict-same (length buf)))
+      (stepBy-same (verdictOn img s ch (length buf)))
 
 -- ---- a cut before the last store leaves such an image
 
-torn : (img : List ℕ) (s : Session) (cmd : List ℕ) (n : ℕ) → n < cut img s cmd n .answer .stores → Torn img (cut img s cmd n .image)
-torn img s cmd n l = go (cutting img s cmd n (replicate 2050 0) long)
+torn : (img : List ℕ) (s : Session) (ch : Chain) (cmd : List ℕ) (n : ℕ) → n < cut img s ch cmd n .answer .stores → Torn img (cut img s ch cmd n .image)
+torn img s ch cmd n l = go (cutting img s ch cmd n (replicate 2050 0) long)
   where
-    same : cut img s cmd n .image ≡ img → Torn img (cut img s cmd n .image)
+    same : cut img s ch cmd n .image ≡ img → Torn img (cut img s ch cmd n .image)
     same e = record { places = λ k. ap (λ (x : List ℕ). find x k) e; counts = λ k. ap (λ (x : List ℕ). count (body x k)) e; uses = λ k. ap (λ (x : List ℕ). used (body x k)) e }
 
-    go : Cutting img s cmd n (replicate 2050 0) long → Torn img (cut img s cmd n .image)
-    go (append-cut w p r e a m i u) = subst (Torn img) (sym i) (record { places = stores-find img (r .kind) n Record (dataOf cmd); counts = counts; uses = uses })
+    go : Cutting img s ch cmd n (replicate 2050 0) long → Torn img (cut img s ch cmd n .image)
+    go (append-cut w p r e a m i u) = subst (Torn img) (sym i) (record { places = stores-find img (r .kind) n Record (dataOf ch cmd); counts = counts; uses = uses })
       where
-        less : n < length (dataOf cmd) + 4
+        less : n < length (dataOf ch cmd) + 4
         less = omega (arith, l, m)
 
         new : List ℕ
-        new = makeStoresIn n img (r .kind) Record (dataOf cmd)
+        new = makeStoresIn n img (r .kind) Record (dataOf ch cmd)
 
         by-kind : (P : List ℕ → ℕ) → P (body new (r .kind)) ≡ P (body img (r .kind)) → (k : ℕ) → P (body new k) ≡ P (body img k)
         by-kind P h k =
             by-cases (eqb k (r .kind))
             (λ y. subst (λ (j : ℕ). P (body new j) ≡ P (body img j)) (sym (eqb-true k (r .kind) y)) h)
-            (λ y. ap P (cut-changes img (r .kind) r (dataOf cmd) w a n less .others k (eqb-false k (r .kind) y)))
+            (λ y. ap P (cut-changes img (r .kind) r (dataOf ch cmd) w a n less .others k (eqb-false k (r .kind) y)))
 
         counted : (x : List ℕ) (k : ℕ) → length (recordsOf x k) ≡ count (body x k)
         counted x k = unfold recordsOf in records-count (body x k)
 
         counts : (k : ℕ) → count (body new k) ≡ count (body img k)
-        counts = by-kind count (sym (counted new (r .kind)) ∙ ap length (cut-list img (r .kind) r (dataOf cmd) w a n less) ∙ counted img (r .kind))
+        counts = by-kind count (sym (counted new (r .kind)) ∙ ap length (cut-list img (r .kind) r (dataOf ch cmd) w a n less) ∙ counted img (r .kind))
 
         uses : (k : ℕ) → used (body new k) ≡ used (body img k)
-        uses = by-kind used (cut-used img (r .kind) r (dataOf cmd) w a n less)
+        uses = by-kind used (cut-used img (r .kind) r (dataOf ch cmd) w a n less)
     go (activate-cut w p b q r m i u t) =
         let e : n ≡ 0 = omega (arith, l, m) in
-        same (i ∙ ap (λ (j : ℕ). makeStoresIn j img (biometricsKind b) State (dataOf cmd)) e ∙ none-made img (biometricsKind b) State (dataOf cmd))
+        same (i ∙ ap (λ (j : ℕ). makeStoresIn j img (biometricsKind b) State (dataOf ch cmd)) e ∙ none-made img (biometricsKind b) State (dataOf ch cmd))
     go (no-cut m i x y) = same i
 
 pub room-used : Room-used
 unfolding afterCall added
-room-used img s cmd n t next buf f w l z p =
-    let left = cut-leaves img s cmd n w in
-    let same = step-same (torn img s cmd n l) w (left .well) t next buf f z p in
-    let new = cut img s cmd n .image in
+room-used img s ch cmd n t c next buf f w l z p =
+    let left = cut-leaves img s ch cmd n w in
+    let same = step-same (torn img s ch cmd n l) w (left .well) t c next buf f z p in
+    let new = cut img s ch cmd n .image in
     record {
       answer-same = same .0;
       buffer-same = same .1;
-      lists-same = λ k b. call-grown new (Command t next buf) (left .well) .records k b
-          ∙ ap₂ (λ (x : List (List ℕ)) (a : Answer). x ++ addedBy k t next (a .status) (shapeOf next)) (left .before l .records k b) (same .0)
-          ∙ sym (call-grown img (Command t next buf) w .records k b);
+      lists-same = λ k b. call-grown new (Command t c next buf) (left .well) .records k b
+          ∙ ap₂ (λ (x : List (List ℕ)) (a : Answer). x ++ addedBy k t c next (a .status) (shapeOf next)) (left .before l .records k b) (same .0)
+          ∙ sym (call-grown img (Command t c next buf) w .records k b);
     }

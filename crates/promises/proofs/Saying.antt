@@ -8,6 +8,7 @@ use native.Mathlib.Omega.{arith}
 use lib.ListN.{length, drop, length-take, length-append}
 use lib.Dec.{eqb}
 use lib.Seq.{sets, length-sets}
+use Rattle.machine_chain.specs.Chain.{Chain, soFar}
 use Rattle.base.specs.Bytes.{part, put, AllBytes}
 use Rattle.base.proofs.Runs.{put-accepted, part-sets, sets-append}
 use Rattle.base.proofs.Cases.{by-cases, ifElse-ind}
@@ -29,7 +30,7 @@ use Rattle.machine_record.specs.SearchRecord.{searchStatus}
 use Rattle.machine_dispatch.specs.Decide.{decide, dataBy, dataOf}
 use Rattle.machine_action.specs.declared.Action.{Action}
 use Rattle.machine_action.specs.declared.Action.the-variants.{Status, SelectApplication, SelectFile, ReadBinary, UpdateBinary, Activate, AppendRecord, ReadRecord, SearchRecord, Report, ReadBinaryOdd}
-use Rattle.machine_dispatch.proofs.Allowing.{From, FromShape, decide-from, reference-short, bytes-part}
+use Rattle.machine_dispatch.proofs.Allowing.{From, reference-short}
 use Rattle.machine_reply_record.proofs.Joining.{records-bound}
 use Rattle.objects_writer.proofs.Fitting.{length-tlv-part}
 use Rattle.machine_reply_fmm.proofs.Reporting.{report-bound}
@@ -41,7 +42,8 @@ use Rattle.promises.specs.Words.{words}
 use Rattle.promises.specs.Promises.{Answered, Gets-word}
 use Rattle.promises.proofs.Answering.{accepted-facts, accepted-room}
 use Rattle.promises.proofs.Keeping.{step-kept}
-use Rattle.promises.proofs.Wording.{word-most, refusing-word, Worded, decide-word}
+use Rattle.promises.proofs.Wording.{word-most, refusing-word, Worded}
+use Rattle.promises.proofs.Whole.{data-bytes, Way, stops, links, whole, way}
 
 -- data and a word, in a buffer that takes both
 said : (w : ℕ) (dat : List ℕ) (s : Session) (img buf : List ℕ) → 2050 ≤ length buf → length dat ≤ 2048 → List·Memᴰ w words → Answered (says w dat s img buf)
@@ -100,38 +102,39 @@ module _ (img : List ℕ) (s : Session) (buf : List ℕ) (o : wellFormed img ≡
   done-answered f d (Report g p2) b h k = with-data _ _ (report-bound p2 _ _ _)
   done-answered f d (ReadBinaryOdd t a n) b h k = with-data _ _ (omega (arith, h .2, length-tlv-part 0x53 (fileBytes img t) a n (omega arith) (h .3)))
 
-  shape-answered : (cmd : List ℕ) (a : Apdu) (x : Action) → AllBytes cmd → FromShape img s cmd a x → Worded x → Answered (done x img s (dataBy cmd a) buf)
+  way-answered : (ch : Chain) (cmd : List ℕ) → AllBytes (soFar ch) → AllBytes cmd → Way img s ch cmd → Answered (done (decide img s ch cmd) img s (dataOf ch cmd) buf)
   unfolding done words
-  shape-answered cmd Bad x b h k = subst (λ (y : Action). Answered (done y img s [] buf)) (sym h) (alone 0x6700 s img (refusing-word 0x6700 refl))
-  shape-answered cmd (Good f) x b h k = done-answered f (part cmd (f .from) (f .lc)) x (bytes-part cmd (f .from) (f .lc) b) h k
+  way-answered ch cmd a b (stops w n e) = subst (λ (y : Action). Answered (done y img s (dataOf ch cmd) buf)) (sym e) (alone w s img (refusing-word w n))
+  way-answered ch cmd a b (links f y) = subst (λ (y : Action). Answered (done y img s (dataOf ch cmd) buf)) (sym (y .action)) (did s img)
+  way-answered ch cmd a b (whole f y) = done-answered f (dataOf ch cmd) (decide img s ch cmd) (data-bytes ch cmd f (y .whole) a b) (y .from) (y .worded)
 
 pub gets-word : Gets-word
 unfolding step
-gets-word img s cmd buf b = go (verdictOn img s (length buf)) refl
+gets-word img s ch cmd buf a b = go (verdictOn img s ch (length buf)) refl
   where
-    go : (x : Verdict) → verdictOn img s (length buf) ≡ x → verdictNumber (stepBy x img s cmd buf .answer .verdict) ≡ 0 → Answered (stepBy x img s cmd buf)
+    go : (x : Verdict) → verdictOn img s ch (length buf) ≡ x → verdictNumber (stepBy x img s ch cmd buf .answer .verdict) ≡ 0 → Answered (stepBy x img s ch cmd buf)
     go Accepted e z =
-        unfold stepBy dataOf in
-        shape-answered img s buf (accepted-facts img s (length buf) e .0) (accepted-room img s buf e) cmd (shapeOf cmd) (decide img s cmd) b (decide-from img s cmd) (decide-word img s cmd)
+        unfold stepBy in
+        way-answered img s buf (accepted-facts img s ch (length buf) e .0) (accepted-room img s ch buf e) ch cmd a b (way img s ch cmd)
     go (Refused ShortBuffer) e z = unfold stepBy verdictNumber refusalNumber in absurd (omega (arith, z))
     go (Refused BadImage) e z = unfold stepBy verdictNumber refusalNumber in absurd (omega (arith, z))
     go (Refused BadRights) e z = unfold stepBy verdictNumber refusalNumber in absurd (omega (arith, z))
     go (Refused BadSession) e z = unfold stepBy verdictNumber refusalNumber in absurd (omega (arith, z))
 
 -- so length and status have bounds, whatever is answered
-pub step-small : (img : List ℕ) (s : Session) (cmd buf : List ℕ) → AllBytes cmd → (step img s cmd buf .answer .length ≤ 2050) × (step img s cmd buf .answer .status ≤ 0x9000)
-step-small img s cmd buf b =
-    let a = step img s cmd buf .answer in
-    by-cases (eqb (verdictNumber (a .verdict)) 0)
-    (λ y. let h = gets-word img s cmd buf b (eqb-true _ _ y) in (h .data-bounded, word-most _ (h .known)))
-    (λ n. let z = eqb-false (verdictNumber (a .verdict)) 0 n in
-    let p : 1 ≤ verdictNumber (a .verdict) = omega (arith, z) in
-    let h = step-kept img s cmd buf .refused p in (omega (arith, h .0), omega (arith, h .1)))
+pub step-small : (img : List ℕ) (s : Session) (ch : Chain) (cmd buf : List ℕ) → AllBytes (soFar ch) → AllBytes cmd → (step img s ch cmd buf .answer .length ≤ 2050) × (step img s ch cmd buf .answer .status ≤ 0x9000)
+step-small img s ch cmd buf a b =
+    let x = step img s ch cmd buf .answer in
+    by-cases (eqb (verdictNumber (x .verdict)) 0)
+    (λ y. let h = gets-word img s ch cmd buf a b (eqb-true _ _ y) in (h .data-bounded, word-most _ (h .known)))
+    (λ n. let z = eqb-false (verdictNumber (x .verdict)) 0 n in
+    let p : 1 ≤ verdictNumber (x .verdict) = omega (arith, z) in
+    let h = step-kept img s ch cmd buf .refused p in (omega (arith, h .0), omega (arith, h .1)))
 
 -- and the status for any command, bytes or not
-pub step-status : (img : List ℕ) (s : Session) (cmd buf : List ℕ) → step img s cmd buf .answer .status ≤ 0x9000
+pub step-status : (img : List ℕ) (s : Session) (ch : Chain) (cmd buf : List ℕ) → step img s ch cmd buf .answer .status ≤ 0x9000
 unfolding step
-step-status img s cmd buf = go (verdictOn img s (length buf))
+step-status img s ch cmd buf = go (verdictOn img s ch (length buf))
   where
     by : (x : Action) (d : List ℕ) → Worded x → done x img s d buf .answer .status ≤ 0x9000
     by (Status w) d k = unfold done says in word-most w (refusing-word w k)
@@ -146,6 +149,14 @@ step-status img s cmd buf = go (verdictOn img s (length buf))
     by (Report g p2) d k = unfold done says in omega arith
     by (ReadBinaryOdd t a n) d k = unfold done says in omega arith
 
-    go : (x : Verdict) → stepBy x img s cmd buf .answer .status ≤ 0x9000
-    go Accepted = unfold stepBy in by (decide img s cmd) (dataOf cmd) (decide-word img s cmd)
+    status-of : (x : Action) → decide img s ch cmd ≡ x → done x img s (dataOf ch cmd) buf .answer .status ≤ 0x9000 → done (decide img s ch cmd) img s (dataOf ch cmd) buf .answer .status ≤ 0x9000
+    status-of x e = subst (λ (y : Action). done y img s (dataOf ch cmd) buf .answer .status ≤ 0x9000) (sym e)
+
+    by-way : Way img s ch cmd → done (decide img s ch cmd) img s (dataOf ch cmd) buf .answer .status ≤ 0x9000
+    by-way (stops w n e) = status-of (Status w) e (by (Status w) (dataOf ch cmd) n)
+    by-way (links f y) = status-of (Status 0x9000) (y .action) (unfold done says in omega arith)
+    by-way (whole f y) = by (decide img s ch cmd) (dataOf ch cmd) (y .worded)
+
+    go : (x : Verdict) → stepBy x img s ch cmd buf .answer .status ≤ 0x9000
+    go Accepted = unfold stepBy in by-way (way img s ch cmd)
     go (Refused r) = unfold stepBy in omega arith

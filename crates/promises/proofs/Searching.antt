@@ -253,16 +253,16 @@ module _ (img : List ℕ) (s : Session) (d buf : List ℕ) (r : Rule) (q : Searc
       }
 
 pub leaves-none-out : Leaves-none-out
-leaves-none-out img calls s cmd buf f x r o t z =
+leaves-none-out img calls s ch cmd buf f x r o t z =
     let now = after img calls in
     let h = calls-held img calls o in
-    let a = taken-accepted now s cmd buf t in
-    let c = search-reached now s cmd f x (z .command) in
+    let a = taken-accepted now s ch cmd buf t in
+    let c = search-reached now s ch cmd f x (z .command) in
     let q = c .query in
-    let i = searching-resolved now s cmd buf f x r a z in
+    let i = searching-resolved now s ch cmd buf f x r a z in
     let g : RecordResolved now s Read r = subst (RecordOk now s Read) i (resolveRecord-wellFormed now s Read (searchNamed (x .file))) in
-    let u : step now s cmd buf ≡ searched now s (dataOf cmd) buf r q (f .ne) = reached-outcome now s cmd buf f x c (RecordAt r) a i ∙ (unfold done in refl) in
+    let u : step now s ch cmd buf ≡ searched now s (dataOf ch cmd) buf r q (f .ne) = reached-outcome now s ch cmd buf f x c (RecordAt r) a i ∙ (unfold done in refl) in
     let e : recordsOf now (r .kind) ≡ history (r .kind) img calls = h .records (r .kind) (stored-records now r (g .file .ok)) in
     subst (Names (history (r .kind) img calls) x (f .ne)) (sym u)
-    (subst (λ (rs : List (List ℕ)). Names rs x (f .ne) (searched now s (dataOf cmd) buf r q (f .ne))) e
-    (names-here now s (dataOf cmd) buf r q (f .ne) x (c .searches) (h .well) (accepted-room now s buf a) (g .file .ok)))
+    (subst (λ (rs : List (List ℕ)). Names rs x (f .ne) (searched now s (dataOf ch cmd) buf r q (f .ne))) e
+    (names-here now s (dataOf ch cmd) buf r q (f .ne) x (c .searches) (h .well) (accepted-room now s ch buf a) (g .file .ok)))

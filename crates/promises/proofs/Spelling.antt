@@ -7,6 +7,7 @@ use native.Mathlib.Omega.{arith}
 use lib.ListN.{length, getD}
 use lib.Dec.{leb, eqb, lit≤}
 use borrow.Author.Tests.{eqb-false, ltb-true}
+use Rattle.machine_chain.specs.Chain.{Chain}
 use Rattle.base.specs.Choice.{ifElse}
 use Rattle.base.proofs.Cases.{by-cases}
 use Rattle.store_image.specs.Image.{recordsOf}
@@ -95,66 +96,66 @@ module _ (img : List ℕ) (s : Session) (buf : List ℕ) (f : Frame) (x : Search
       (says normal (foundData (b ∷ []) (matched r)) (placed s (OnRecord (r .id) (getD (matched r) 0 0))) img buf)
       (says (status r b) [] s img buf)
 
-  module _ (a : verdictOn img s (length buf) ≡ Accepted) where
+  module _ (ch : Chain) (a : verdictOn img s ch (length buf) ≡ Accepted) where
     abbrev room : 2050 ≤ length buf
-    room = accepted-room img s buf a
+    room = accepted-room img s ch buf a
 
-    module _ (b : ℕ) (cmd : List ℕ) (c : SearchCommand cmd f (withFile x (b ∷ []))) where
+    module _ (b : ℕ) (cmd : List ℕ) (c : SearchCommand ch cmd f (withFile x (b ∷ []))) where
       abbrev resolved : ResolvedRecord
       resolved = resolveRecord img s Read (searchNamed (b ∷ []))
 
       abbrev ok : RecordOk img s Read resolved
       ok = resolveRecord-wellFormed img s Read (searchNamed (b ∷ []))
 
-      abbrev asked : Reached img s cmd f (withFile x (b ∷ []))
-      asked = search-reached img s cmd f (withFile x (b ∷ [])) c
+      abbrev asked : Reached img s ch cmd f (withFile x (b ∷ []))
+      asked = search-reached img s ch cmd f (withFile x (b ∷ [])) c
 
       at-file : (r : Rule) → resolved ≡ RecordAt r
-          → (searched img s (dataOf cmd) buf r (asked .query) (f .ne) ≡ answers (RecordAt r) b) × (length (foundData (b ∷ []) (matched r)) ≤ 2048)
+          → (searched img s (dataOf ch cmd) buf r (asked .query) (f .ne) ≡ answers (RecordAt r) b) × (length (foundData (b ∷ []) (matched r)) ≤ 2048)
       unfolding searched searchStatus
       at-file r e =
           let y : SearchFields = withFile x (b ∷ []) in
           let g : RecordResolved img s Read r = subst (RecordOk img s Read) e ok in
-          let o = accepted-facts img s (length buf) a .0 in
-          let h = hits-are img s (dataOf cmd) buf r (asked .query) (f .ne) y (asked .searches) o room (g .file .ok) in
-          let p = reply-is img s (dataOf cmd) buf r (asked .query) (f .ne) y (asked .searches) o room (g .file .ok) in
-          let k = file-short img s (dataOf cmd) buf r (asked .query) (f .ne) y (asked .searches) o room (g .file .ok) in
-          (rw (h, p), subst (λ (m : List ℕ). length m ≤ 2048) p (reply-short img (dataOf cmd) r (asked .query) o (g .file .ok) k))
+          let o = accepted-facts img s ch (length buf) a .0 in
+          let h = hits-are img s (dataOf ch cmd) buf r (asked .query) (f .ne) y (asked .searches) o room (g .file .ok) in
+          let p = reply-is img s (dataOf ch cmd) buf r (asked .query) (f .ne) y (asked .searches) o room (g .file .ok) in
+          let k = file-short img s (dataOf ch cmd) buf r (asked .query) (f .ne) y (asked .searches) o room (g .file .ok) in
+          (rw (h, p), subst (λ (m : List ℕ). length m ≤ 2048) p (reply-short img (dataOf ch cmd) r (asked .query) o (g .file .ok) k))
 
       -- a status word of steps 7 to 9 is not 9000
       stops : (k : ℕ) → resolved ≡ RecordStop k → k ≡ 0x9000 → ⊥
       stops k e z = let h = ltb-true k 0x9000 (subst (RecordOk img s Read) e ok) in omega (arith, z)
 
-      comes-to : (z : ResolvedRecord) → resolved ≡ z → step img s cmd buf ≡ answers z b
+      comes-to : (z : ResolvedRecord) → resolved ≡ z → step img s ch cmd buf ≡ answers z b
       unfolding done
-      comes-to z e = reached-outcome img s cmd buf f (withFile x (b ∷ [])) asked z a e ∙ acts z e
+      comes-to z e = reached-outcome img s ch cmd buf f (withFile x (b ∷ [])) asked z a e ∙ acts z e
         where
-          acts : (z : ResolvedRecord) → resolved ≡ z → done (onRecord z (searchOn (asked .query) (f .ne))) img s (dataOf cmd) buf ≡ answers z b
+          acts : (z : ResolvedRecord) → resolved ≡ z → done (onRecord z (searchOn (asked .query) (f .ne))) img s (dataOf ch cmd) buf ≡ answers z b
           acts (RecordStop k) e = refl
           acts (RecordAt r) e = at-file r e .0
 
 -- ---- the theorem
 
-module _ (img : List ℕ) (s : Session) (cmd other buf : List ℕ) (f : Frame) (x : SearchFields) (y : ℕ) (n : y % 8 ≡ 0 → ⊥) (c : SearchCommand cmd f (withFile x (y ∷ []))) (d : SearchCommand other f (withFile x (8 * y ∷ []))) where
+module _ (img : List ℕ) (s : Session) (ch : Chain) (cmd other buf : List ℕ) (f : Frame) (x : SearchFields) (y : ℕ) (n : y % 8 ≡ 0 → ⊥) (c : SearchCommand ch cmd f (withFile x (y ∷ []))) (d : SearchCommand ch other f (withFile x (8 * y ∷ []))) where
   abbrev some : 1 ≤ length (x .text)
   some = c .sized .text-size
 
-  answers-alike : verdictOn img s (length buf) ≡ Accepted → (z : ResolvedRecord) → resolveRecord img s Read (searchNamed (y ∷ [])) ≡ z → Alike y (8 * y) (answers img s buf f x some z y) (answers img s buf f x some z (8 * y))
-  answers-alike a (RecordStop k) e = word-alike y (8 * y) img s buf k (stops img s buf f x some a y cmd c k e)
+  answers-alike : verdictOn img s ch (length buf) ≡ Accepted → (z : ResolvedRecord) → resolveRecord img s Read (searchNamed (y ∷ [])) ≡ z → Alike y (8 * y) (answers img s buf f x some z y) (answers img s buf f x some z (8 * y))
+  answers-alike a (RecordStop k) e = word-alike y (8 * y) img s buf k (stops img s buf f x some ch a y cmd c k e)
   answers-alike a (RecordAt r) e =
       let ns = matched img s buf f x some r in
       let l = same-length ns (8 * y) y in
       by-cases (eqb (status img s buf f x some r y) normal)
-      (λ t. simp (l, t) (found-alike y (8 * y) ns img (placed s (OnRecord (r .id) (getD ns 0 0))) buf (at-file img s buf f x some a y cmd c r e .1) (accepted-room img s buf a)))
+      (λ t. simp (l, t) (found-alike y (8 * y) ns img (placed s (OnRecord (r .id) (getD ns 0 0))) buf (at-file img s buf f x some ch a y cmd c r e .1) (accepted-room img s ch buf a)))
       (λ t. simp (l, t) (word-alike y (8 * y) img s buf (status img s buf f x some r y) (eqb-false _ _ t)))
 
-  spelled-alike : (z : Verdict) → verdictOn img s (length buf) ≡ z → Alike y (8 * y) (step img s cmd buf) (step img s other buf)
+  spelled-alike : (z : Verdict) → verdictOn img s ch (length buf) ≡ z → Alike y (8 * y) (step img s ch cmd buf) (step img s ch other buf)
   unfolding step stepBy
   spelled-alike (Refused r) e = simp e (alike-itself y (8 * y) (outcome (refused r s) img buf) (λ z. omega (arith, z)))
   spelled-alike Accepted e =
       let z = resolveRecord img s Read (searchNamed (y ∷ [])) in
-      simp (comes-to img s buf f x some e y cmd c z refl, comes-to img s buf f x some e (8 * y) other d z (ap (resolveRecord img s Read) (searchNamed-alike y n)))
+      simp (comes-to img s buf f x some ch e y cmd c z refl, comes-to img s buf f x some ch e (8 * y) other d z (ap (resolveRecord img s Read) (searchNamed-alike y n)))
       (answers-alike e z refl)
 
 pub both-spellings : Both-spellings
-both-spellings img s cmd other buf f x y n c d = spelled-alike img s cmd other buf f x y n c d (verdictOn img s (length buf)) refl
+both-spellings img s ch cmd other buf f x y n c d = spelled-alike img s ch cmd other buf f x y n c d (verdictOn img s ch (length buf)) refl

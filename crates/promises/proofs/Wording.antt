@@ -8,6 +8,7 @@ use native.Mathlib.Omega.{arith}
 use lib.ListN.{length}
 use lib.Dec.{leb, eqb}
 use borrow.Author.Tests.{eqb-true, leb-true}
+use Rattle.machine_chain.specs.Chain.{Chain}
 use Rattle.base.specs.Bytes.{part}
 use Rattle.base.proofs.Cases.{by-cases, ifElse-ind, false-true, and-left, and-right}
 use Rattle.objects_templates.specs.Search.{readSearch}
@@ -71,6 +72,14 @@ use Rattle.machine_action.specs.declared.Action.{Action}
 use Rattle.machine_action.specs.declared.Action.the-variants.{Status, SelectApplication, SelectFile, ReadBinary, UpdateBinary, Activate, AppendRecord, ReadRecord, SearchRecord, Report, ReadBinaryOdd}
 use Rattle.machine_binary.specs.Activate.{activateFile}
 use Rattle.machine_dispatch.specs.Decide.{byIns, byOwnIns, byClass, byShape, decide}
+use Rattle.machine_session.specs.Order.{inOrder}
+use Rattle.machine_apdu.specs.Status.{normal, wrongLength}
+use Rattle.machine_action.specs.Tests.{lcOnly}
+use Rattle.machine_chain.specs.Chain.{isAmid}
+use Rattle.machine_link.specs.Parameters.{parametersFit}
+use Rattle.machine_link.specs.Link.{isLink, headStatus, joinFits, linkTurn, lastTurn, turn}
+use Rattle.machine_link.specs.declared.Course.{Course}
+use Rattle.machine_link.specs.declared.Course.the-variants.{Stops, Extends, Goes}
 use Rattle.promises.specs.Words.{words}
 
 -- ---- one of a list
@@ -105,7 +114,7 @@ word-most w m = below-each 0x9000 w words refl m
 
 -- the words that refuse a command: all but 9000 and 6282
 abbrev pub refusing : List ℕ
-refusing = 0x6700 ∷ 0x6E00 ∷ 0x6D00 ∷ 0x6A86 ∷ 0x6A80 ∷ 0x6986 ∷ 0x6A82 ∷ 0x6981 ∷ 0x6982 ∷ 0x6B00 ∷ 0x6A83 ∷ 0x6A84 ∷ []
+refusing = 0x6700 ∷ 0x6E00 ∷ 0x6D00 ∷ 0x6A86 ∷ 0x6A80 ∷ 0x6986 ∷ 0x6A82 ∷ 0x6981 ∷ 0x6982 ∷ 0x6B00 ∷ 0x6A83 ∷ 0x6A84 ∷ 0x6883 ∷ []
 
 abbrev pub isRefusing : ℕ → Bool
 isRefusing w = among w refusing
@@ -323,7 +332,7 @@ module _ (img : List ℕ) (s : Session) (f : Frame) (d : List ℕ) where
           unfold fmmFile in ifElse-ind Worded (eqb (length (part d (q .at) (q .len))) 1) (λ e. inOrder-each Worded _ _ (refl, tt) (λ p. named _)) (λ e. named _)
 
   -- steps 2 and 3
-  class-word : Worded (byClass img s f d)
+  pub class-word : Worded (byClass img s f d)
   unfolding byClass byIns byOwnIns
   class-word =
       ifElse-ind Worded (eqb (f .header .cla) 0x00)
@@ -337,11 +346,35 @@ module _ (img : List ℕ) (s : Session) (f : Frame) (d : List ℕ) where
       (λ n. ifElse-ind Worded (eqb (f .header .ins) 0xA2) (λ e. search-word) (λ n. refl)))))))))
       (λ n. ifElse-ind Worded (eqb (f .header .cla) 0x80) (λ c. ifElse-ind Worded (eqb (f .header .ins) 0x5E) (λ e. fmm-word) (λ n. refl)) (λ n. refl))
 
--- step 1
-pub decide-word : (img : List ℕ) (s : Session) (cmd : List ℕ) → Worded (decide img s cmd)
-unfolding decide
-decide-word img s cmd = go (shapeOf cmd)
-  where
-    go : (a : Apdu) → Worded (byShape img s cmd a)
-    go Bad = refl
-    go (Good f) = class-word img s f (part cmd (f .from) (f .lc))
+-- ---- links
+
+-- what stops a command amid a chain
+pub data Stopping : Course → Type 0 where
+  stopping : (w : ℕ) → isRefusing w ≡ true → Stopping (Stops w)
+  extending : Stopping Extends
+  going : Stopping Goes
+
+module _ (ch : Chain) (f : Frame) where
+  abbrev w : ℕ
+  w = headStatus ch (f .header)
+
+  head-word : eqb w normal ≡ false → Stopping (Stops w)
+  unfolding headStatus
+  head-word e =
+      stopping _ (inOrder-each (λ (x : ℕ). eqb x normal ≡ false → isRefusing x ≡ true) _ _ ((λ z. refl), ((λ z. refl), ((λ z. refl), tt))) (λ p z. false-true (sym z)) e)
+
+  short : Stopping (Stops wrongLength)
+  short = stopping _ refl
+
+  pub turn-word : Stopping (turn ch f)
+  unfolding turn linkTurn lastTurn inOrder
+  turn-word =
+      ifElse-ind Stopping (isLink (f .header))
+      (λ e.
+      ifElse-ind Stopping (eqb w normal)
+      (λ z.
+      ifElse-ind Stopping (parametersFit (f .header .ins) (f .header .p1) (f .header .p2))
+      (λ a. ifElse-ind Stopping (lcOnly f) (λ b. ifElse-ind Stopping (joinFits ch f) (λ d. extending) (λ d. short)) (λ b. short))
+      (λ a. stopping _ refl))
+      head-word)
+      (λ e. ifElse-ind Stopping (isAmid ch) (λ z. ifElse-ind Stopping (eqb w normal) (λ y. ifElse-ind Stopping (joinFits ch f) (λ a. going) (λ a. short)) head-word) (λ z. going))

@@ -31,16 +31,16 @@ use Rattle.machine_session.specs.declared.Session.{Session}
 use Rattle.machine_session.specs.declared.Named.{Named}
 use Rattle.machine_session.specs.declared.Named.the-variants.{Current, Short, Id}
 use Rattle.machine_session.specs.declared.Access.the-variants.{Append}
-use Rattle.machine_apdu.specs.Shape.{shapeOf}
 use Rattle.machine_apdu.specs.declared.Apdu.the-variants.{Good}
 use Rattle.machine_apdu.specs.declared.Frame.{Frame}
 use Rattle.machine_action.specs.Tests.{p1p2, idIn}
+use Rattle.machine_chain.specs.Chain.{Chain, soFar}
 use Rattle.machine_dispatch.specs.Decide.{dataOf}
 use Rattle.machine_reply_fmm.specs.Report.{total, remaining, existing, reportData}
 use Rattle.machine_answer.specs.Outcome.{Outcome}
 use Rattle.machine.specs.Step.{step}
 use Rattle.promises.specs.Files.{isMeantByP2, Permitted, Inspected, Writes-to}
-use Rattle.promises.specs.Calls.{isPair}
+use Rattle.promises.specs.Calls.{isPair, wholeOf}
 use Rattle.promises.specs.Promises.{dataIn}
 
 -- the image `new` differs from `img` in the file of kind k alone: the same files are there, and every other is what it was, byte for byte [C13]
@@ -51,38 +51,38 @@ pub record Only (k : ℕ) (img new : List ℕ) : Type 0 where
   pub others : (j : ℕ) → (j ≡ k → ⊥) → body new j ≡ body img j
 
 -- the command cmd of frame f, with these CLA and INS, is answered 9000 [C13]
-pub record Obeyed (img : List ℕ) (s : Session) (cmd buf : List ℕ) (f : Frame) (cla ins : ℕ) : Type 0 where
-  pub shape : shapeOf cmd ≡ Good f
+pub record Obeyed (img : List ℕ) (s : Session) (ch : Chain) (cmd buf : List ℕ) (f : Frame) (cla ins : ℕ) : Type 0 where
+  pub shape : wholeOf ch cmd ≡ Good f
   pub pair : isPair f cla ins ≡ true
-  pub status : step img s cmd buf .answer .status ≡ 0x9000
+  pub status : step img s ch cmd buf .answer .status ≡ 0x9000
 
 -- ---- APPEND RECORD
 
 -- the file's records are those of before and behind them the data field. The new record becomes the current one. [C13] [G4]
-pub record Appended (img : List ℕ) (s : Session) (cmd : List ℕ) (f : Frame) (o : Outcome) : Type 0 where
+pub record Appended (img : List ℕ) (s : Session) (ch : Chain) (cmd : List ℕ) (f : Frame) (o : Outcome) : Type 0 where
   pub rule : Rule
   pub meant : isMeantByP2 s (f .header .p2 / 8) (RecordFile rule) ≡ true
   pub permitted : Permitted s Append rule
-  pub records : recordsOf (o .image) (rule .kind) ≡ recordsOf img (rule .kind) ++ (dataOf cmd ∷ [])
+  pub records : recordsOf (o .image) (rule .kind) ≡ recordsOf img (rule .kind) ++ (dataOf ch cmd ∷ [])
   pub only : Only (rule .kind) img (o .image)
   pub current : o .answer .session ≡ placed s (OnRecord (rule .id) (length (recordsOf img (rule .kind)) + 1))
 
 -- [C13]
 abbrev pub Append-done : Type 0
-Append-done = (img : List ℕ) (s : Session) (cmd buf : List ℕ) (f : Frame) → Obeyed img s cmd buf f 0x00 0xE2 → Appended img s cmd f (step img s cmd buf)
+Append-done = (img : List ℕ) (s : Session) (ch : Chain) (cmd buf : List ℕ) (f : Frame) → Obeyed img s ch cmd buf f 0x00 0xE2 → Appended img s ch cmd f (step img s ch cmd buf)
 
 -- ---- UPDATE BINARY
 
 -- the data field is the writing of an offset and of bytes; these bytes stand from that offset on, before and behind them what stood
 -- there. What is written never shrinks, and the file becomes the current one. [C13] [W5]
-pub record Updated (img : List ℕ) (s : Session) (cmd : List ℕ) (f : Frame) (o : Outcome) : Type 0 where
+pub record Updated (img : List ℕ) (s : Session) (ch : Chain) (cmd : List ℕ) (f : Frame) (o : Outcome) : Type 0 where
   pub number : ℕ
   pub offset : List ℕ
   pub bytes : List ℕ
   -- P1-P2 is the file's id, and 0000 means the current file
   pub of-current : p1p2 f ≡ 0 → Writes-to img s Current number
   pub of-id : (p1p2 f ≡ 0 → ⊥) → Writes-to img s (Id (p1p2 f)) number
-  pub writes : dataOf cmd ≡ updateData offset bytes
+  pub writes : dataOf ch cmd ≡ updateData offset bytes
   pub sized : UpdateSized offset bytes
   pub stands : writtenBytes (body (o .image) (biometricsKind number)) ≡ splice (writtenBytes (body img (biometricsKind number))) (big offset) bytes
   pub larger : written (body (o .image) (biometricsKind number)) ≡ max (written (body img (biometricsKind number))) (big offset + length bytes)
@@ -93,10 +93,11 @@ pub record Updated (img : List ℕ) (s : Session) (cmd : List ℕ) (f : Frame) (
 -- [C13]
 abbrev pub Update-done : Type 0
 Update-done =
-    (img : List ℕ) (s : Session) (cmd buf : List ℕ) (f : Frame)
+    (img : List ℕ) (s : Session) (ch : Chain) (cmd buf : List ℕ) (f : Frame)
+    → AllBytes (soFar ch)
     → AllBytes cmd
-    → Obeyed img s cmd buf f 0x00 0xD7
-    → Updated img s cmd f (step img s cmd buf)
+    → Obeyed img s ch cmd buf f 0x00 0xD7
+    → Updated img s ch cmd f (step img s ch cmd buf)
 
 -- ---- ACTIVATE
 
@@ -112,7 +113,7 @@ pub record Activated (img : List ℕ) (s : Session) (o : Outcome) : Type 0 where
 
 -- [C13]
 abbrev pub Activate-done : Type 0
-Activate-done = (img : List ℕ) (s : Session) (cmd buf : List ℕ) (f : Frame) → Obeyed img s cmd buf f 0x00 0x44 → Activated img s (step img s cmd buf)
+Activate-done = (img : List ℕ) (s : Session) (ch : Chain) (cmd buf : List ℕ) (f : Frame) → Obeyed img s ch cmd buf f 0x00 0x44 → Activated img s (step img s ch cmd buf)
 
 -- ---- READ BINARY
 
@@ -130,20 +131,20 @@ pub record Fetched (img : List ℕ) (s : Session) (f : Frame) (o : Outcome) : Ty
 
 -- [C13]
 abbrev pub Read-done : Type 0
-Read-done = (img : List ℕ) (s : Session) (cmd buf : List ℕ) (f : Frame) → Obeyed img s cmd buf f 0x00 0xB0 → Fetched img s f (step img s cmd buf)
+Read-done = (img : List ℕ) (s : Session) (ch : Chain) (cmd buf : List ℕ) (f : Frame) → Obeyed img s ch cmd buf f 0x00 0xB0 → Fetched img s f (step img s ch cmd buf)
 
 -- ---- READ BINARY with the odd INS, B1
 
 -- the data field is the writing of an offset. The reply is `53` with the file's bytes from that offset on: as many as the file has there, and
 -- a reply of at most Ne and at most 2,048 bytes can hold. The file becomes the current one. [C13] [Y10]
-pub record FetchedOdd (img : List ℕ) (s : Session) (cmd : List ℕ) (f : Frame) (o : Outcome) : Type 0 where
+pub record FetchedOdd (img : List ℕ) (s : Session) (ch : Chain) (cmd : List ℕ) (f : Frame) (o : Outcome) : Type 0 where
   pub file : Transparent
   pub offset : List ℕ
   pub bytes : List ℕ
   -- P1-P2 is the file's id, and 0000 means the current file
   pub of-current : p1p2 f ≡ 0 → Inspected img s Current (TransparentFile file)
   pub of-id : (p1p2 f ≡ 0 → ⊥) → Inspected img s (Id (p1p2 f)) (TransparentFile file)
-  pub asks : dataOf cmd ≡ offsetData offset
+  pub asks : dataOf ch cmd ≡ offsetData offset
   pub size : OffsetSize offset
   pub told : dataIn o ≡ tlv 0x53 bytes
   pub content : bytes ≡ part (fileBytes img file) (big offset) (length bytes)
@@ -159,28 +160,29 @@ pub record FetchedOdd (img : List ℕ) (s : Session) (cmd : List ℕ) (f : Frame
 -- [C13]
 abbrev pub Read-odd-done : Type 0
 Read-odd-done =
-    (img : List ℕ) (s : Session) (cmd buf : List ℕ) (f : Frame)
+    (img : List ℕ) (s : Session) (ch : Chain) (cmd buf : List ℕ) (f : Frame)
+    → AllBytes (soFar ch)
     → AllBytes cmd
-    → Obeyed img s cmd buf f 0x00 0xB1
-    → FetchedOdd img s cmd f (step img s cmd buf)
+    → Obeyed img s ch cmd buf f 0x00 0xB1
+    → FetchedOdd img s ch cmd f (step img s ch cmd buf)
 
 -- ---- SELECT
 
 -- by P1: an application that is there and whose flag is on; a file of the selected application, which then has no current record; the
 -- master file. An application, or the master file, has no current file at first. [C13] [L6] [L7]
-pub record Selected (img : List ℕ) (s : Session) (cmd : List ℕ) (f : Frame) (o : Outcome) : Type 0 where
+pub record Selected (img : List ℕ) (s : Session) (ch : Chain) (cmd : List ℕ) (f : Frame) (o : Outcome) : Type 0 where
   pub p1-known : List·Memᴰ (f .header .p1) (0x04 ∷ 0x02 ∷ 0x00 ∷ [])
   pub by-aid : f .header .p1 ≡ 0x04
-      → (a : ℕ) × (aidOf (dataOf cmd) ≡ Application a) × (present img a ≡ true) × (flagged (s .rights) a ≡ true) × (o .answer .session ≡ entered s a)
+      → (a : ℕ) × (aidOf (dataOf ch cmd) ≡ Application a) × (present img a ≡ true) × (flagged (s .rights) a ≡ true) × (o .answer .session ≡ entered s a)
   pub by-id : f .header .p1 ≡ 0x02
-      → (file : File) × (length (dataOf cmd) ≡ 2) × Inspected img s (Id (idIn (dataOf cmd))) file × (o .answer .session ≡ placed s (OnFile (idOf file)))
-  pub by-master : f .header .p1 ≡ 0x00 → (length (dataOf cmd) ≡ 2) × (idIn (dataOf cmd) ≡ 0x3F00) × (o .answer .session ≡ entered s 0)
+      → (file : File) × (length (dataOf ch cmd) ≡ 2) × Inspected img s (Id (idIn (dataOf ch cmd))) file × (o .answer .session ≡ placed s (OnFile (idOf file)))
+  pub by-master : f .header .p1 ≡ 0x00 → (length (dataOf ch cmd) ≡ 2) × (idIn (dataOf ch cmd) ≡ 0x3F00) × (o .answer .session ≡ entered s 0)
   pub image-kept : o .image ≡ img
   pub nothing-told : o .answer .length ≡ 2
 
 -- [C13]
 abbrev pub Select-done : Type 0
-Select-done = (img : List ℕ) (s : Session) (cmd buf : List ℕ) (f : Frame) → Obeyed img s cmd buf f 0x00 0xA4 → Selected img s cmd f (step img s cmd buf)
+Select-done = (img : List ℕ) (s : Session) (ch : Chain) (cmd buf : List ℕ) (f : Frame) → Obeyed img s ch cmd buf f 0x00 0xA4 → Selected img s ch cmd f (step img s ch cmd buf)
 
 -- ---- FMM
 
@@ -193,11 +195,11 @@ pub record Referred (d : List ℕ) (n : Named) : Type 0 where
   pub by-id : length reference ≡ 2 → n ≡ Id (idIn reference)
 
 -- the current file, or the one that the data refers to; its numbers that P2 asks for. The file becomes the current one. [C13] [Z4]
-pub record Reported (img : List ℕ) (s : Session) (cmd : List ℕ) (f : Frame) (o : Outcome) : Type 0 where
+pub record Reported (img : List ℕ) (s : Session) (ch : Chain) (cmd : List ℕ) (f : Frame) (o : Outcome) : Type 0 where
   pub file : File
   pub named : Named
   pub of-current : f .header .p1 ≡ 0 → named ≡ Current
-  pub of-named : (f .header .p1 ≡ 0 → ⊥) → Referred (dataOf cmd) named
+  pub of-named : (f .header .p1 ≡ 0 → ⊥) → Referred (dataOf ch cmd) named
   pub reached : Inspected img s named file
   pub told : dataIn o ≡ reportData (f .header .p2) (total img file) (remaining img file) (existing img file)
   pub image-kept : o .image ≡ img
@@ -206,7 +208,8 @@ pub record Reported (img : List ℕ) (s : Session) (cmd : List ℕ) (f : Frame) 
 -- [C13]
 abbrev pub Fmm-done : Type 0
 Fmm-done =
-    (img : List ℕ) (s : Session) (cmd buf : List ℕ) (f : Frame)
+    (img : List ℕ) (s : Session) (ch : Chain) (cmd buf : List ℕ) (f : Frame)
+    → AllBytes (soFar ch)
     → AllBytes cmd
-    → Obeyed img s cmd buf f 0x80 0x5E
-    → Reported img s cmd f (step img s cmd buf)
+    → Obeyed img s ch cmd buf f 0x80 0x5E
+    → Reported img s ch cmd f (step img s ch cmd buf)

@@ -18,14 +18,13 @@ use Rattle.store_image.specs.Image.{has, wellFormed}
 use Rattle.store_index.specs.Index.{build, buildInto, extend, extendInto, measure, IndexedPart}
 use Rattle.machine_session.specs.Session.{placeRecord}
 use Rattle.machine_session.specs.declared.Session.{Session}
-use Rattle.machine_apdu.specs.Shape.{shapeOf}
 use Rattle.machine_apdu.specs.declared.Apdu.the-variants.{Good}
 use Rattle.machine_apdu.specs.declared.Frame.{Frame}
 use Rattle.machine_answer.specs.Outcome.{Outcome}
 use Rattle.machine_session_bytes.specs.Layout.{sessionIn}
-use Rattle.malquindo.specs.Face.{called, indexResult}
+use Rattle.malquindo.specs.Face.{chainOfC, called, indexResult}
 use Rattle.promises.specs.Files.{isMeantKind}
-use Rattle.promises.specs.Calls.{isPair}
+use Rattle.promises.specs.Calls.{isPair, wholeOf}
 use Rattle.promises.specs.Promises.{dataIn}
 use Rattle.promises.specs.Linked.{refusalIn, statusIn, seen, CCall, afterCallC, afterC, addedC, historyC}
 use Rattle.promises.specs.Bodies.{lentBody, IsNumber}
@@ -178,8 +177,9 @@ C-index-replies =
     → wellFormed img ≡ true
     → has img k ≡ true
     → length (historyC k img calls) ≤ length ps
+    → AllBytes ses
     → AllBytes cmd
-    → shapeOf cmd ≡ Good f
+    → wholeOf (chainOfC ses) cmd ≡ Good f
     → isPair f 0x00 0xB2 ≡ true
     → f .header .p2 % 8 ≡ 4
     → isMeantKind (sessionIn ses) (f .header .p2 / 8) k ≡ true

@@ -13,3 +13,4 @@ pub mod Certificates
 pub mod Index
 pub mod Stamps
 pub mod Rights
+pub mod Links

@@ -19,14 +19,15 @@ use Rattle.machine_session.specs.declared.Refusal.the-variants.{ShortBuffer, Ba
 use Rattle.machine_session.specs.declared.Verdict.{Verdict}
 use Rattle.machine_session.specs.declared.Verdict.the-variants.{Accepted, Refused}
 use Rattle.machine_apdu.specs.Shape.{shapeOf}
+use Rattle.machine_chain.specs.Chain.{NoChain}
 use Rattle.machine_apdu.specs.declared.Apdu.the-variants.{Good}
 use Rattle.machine_apdu.specs.declared.Frame.{Frame}
 use Rattle.machine_answer.specs.Outcome.{Outcome, outcome}
 use Rattle.machine.specs.Step.{step}
-use Rattle.machine_session_bytes.specs.Layout.{isSession, sessionIn}
-use Rattle.malquindo.specs.Face.{openResult, openSession, Called, called, calledCut, moveResult}
+use Rattle.machine_session_bytes.specs.Layout.{sessionIn}
+use Rattle.malquindo.specs.Face.{openResult, openSession, isSessionC, chainOfC, Called, called, calledCut, moveResult}
 use Rattle.store_move.specs.Moving.{moveCard, moveCardInto}
-use Rattle.promises.specs.Calls.{isPair, addedBy, addedByCut}
+use Rattle.promises.specs.Calls.{isPair, wholeOf, addedBy, addedByCut}
 use Rattle.promises.specs.Promises.{Kept, Answered, Reads, Searching, Names, MovedCard}
 
 -- ---- results: `malquindo_refusal`, `malquindo_length`, `malquindo_status`, `malquindo_moved`, `malquindo_stores`
@@ -99,9 +100,9 @@ afterC img (c ∷ cs) = afterC (afterCallC img c) cs
 -- what a call adds to the records of a file, as its result tells it [X8]
 unfoldable pub addedC : ℕ → List ℕ → CCall → List (List ℕ)
 addedC k img (OpenC rights ses) = []
-addedC k img (CommandC ses cmd buf) = addedBy k (sessionIn ses) cmd (statusIn (called img ses cmd buf .result)) (shapeOf cmd)
+addedC k img (CommandC ses cmd buf) = addedBy k (sessionIn ses) (chainOfC ses) cmd (statusIn (called img ses cmd buf .result)) (shapeOf cmd)
 addedC k img (MoveC list t) = []
-addedC k img (CutC ses cmd n) = addedByCut k (sessionIn ses) cmd (cutStoresIn (calledCut img ses cmd n .result)) n
+addedC k img (CutC ses cmd n) = addedByCut k (sessionIn ses) (chainOfC ses) cmd (cutStoresIn (calledCut img ses cmd n .result)) n
 
 -- [X8]
 unfoldable pub additionsC : ℕ → List ℕ → List CCall → List (List ℕ)
@@ -116,7 +117,12 @@ historyC k img cs = recordsOf img k ++ additionsC k img cs
 
 -- [X7]
 abbrev pub C-sees : Type 0
-C-sees = (img ses cmd buf : List ℕ) → AllBytes cmd → isSession ses ≡ true → seen (called img ses cmd buf) ≡ step img (sessionIn ses) cmd buf
+C-sees =
+    (img ses cmd buf : List ℕ)
+    → AllBytes ses
+    → AllBytes cmd
+    → isSessionC ses ≡ true
+    → seen (called img ses cmd buf) ≡ step img (sessionIn ses) (chainOfC ses) cmd buf
 
 -- bytes that are no session get a refusal, and nothing is touched [X2]
 pub record MalformedC (img ses buf : List ℕ) (c : Called) : Type 0 where
@@ -126,25 +132,28 @@ pub record MalformedC (img ses buf : List ℕ) (c : Called) : Type 0 where
 
 -- [X2]
 abbrev pub C-malformed : Type 0
-C-malformed = (img ses cmd buf : List ℕ) → isSession ses ≡ false → MalformedC img ses buf (called img ses cmd buf)
+C-malformed = (img ses cmd buf : List ℕ) → isSessionC ses ≡ false → MalformedC img ses buf (called img ses cmd buf)
 
 -- ---- 1. "When your chip says no, what has it changed?"
 
--- of the session that is lent, the bytes themselves stay [X5] [X8]
+-- of the session that is lent, the bytes themselves stay, but for those of a chain that is dropped [X5] [X8]
 pub record KeptC (img ses buf : List ℕ) (c : Called) : Type 0 where
-  pub kept : Kept img (sessionIn ses) buf (seen c)
-  pub session-kept : (statusIn (c .result) ≡ 0x9000 → ⊥) → c .session ≡ ses
-  -- a session has 25 bytes; those behind them stay
-  pub session-rest-kept : drop 25 (c .session) ≡ drop 25 ses
+  pub kept : Kept img (sessionIn ses) (chainOfC ses) buf (seen c) (chainOfC (c .session))
+  pub session-kept : (statusIn (c .result) ≡ 0x9000 → ⊥) → take 25 (c .session) ≡ take 25 ses
+  -- a refusal leaves every byte, and so does every status but 9000 where there is no chain
+  pub refused-kept : 1 ≤ refusalIn (c .result) → c .session ≡ ses
+  pub no-chain-kept : chainOfC ses ≡ NoChain → (statusIn (c .result) ≡ 0x9000 → ⊥) → c .session ≡ ses
+  -- a session has 1,054 bytes; those behind them stay
+  pub session-rest-kept : drop 1054 (c .session) ≡ drop 1054 ses
   pub session-size-kept : length (c .session) ≡ length ses
 
 -- [X8] [C4]
 abbrev pub C-says-no : Type 0
-C-says-no = (img ses cmd buf : List ℕ) → AllBytes cmd → KeptC img ses buf (called img ses cmd buf)
+C-says-no = (img ses cmd buf : List ℕ) → AllBytes ses → AllBytes cmd → KeptC img ses buf (called img ses cmd buf)
 
 -- [X8] [C5]
 abbrev pub C-gets-word : Type 0
-C-gets-word = (img ses cmd buf : List ℕ) → AllBytes cmd → refusalIn (called img ses cmd buf .result) ≡ 0 → Answered (seen (called img ses cmd buf))
+C-gets-word = (img ses cmd buf : List ℕ) → AllBytes ses → AllBytes cmd → refusalIn (called img ses cmd buf .result) ≡ 0 → Answered (seen (called img ses cmd buf))
 
 -- ---- 2. "Can you show that record 7 is still the record 7 that was written, after any commands at all?"
 
@@ -172,8 +181,9 @@ abbrev pub C-reads-history : Type 0
 C-reads-history =
     (img : List ℕ) (calls : List CCall) (ses cmd buf : List ℕ) (f : Frame)
     → wellFormed img ≡ true
+    → AllBytes ses
     → AllBytes cmd
-    → shapeOf cmd ≡ Good f
+    → wholeOf (chainOfC ses) cmd ≡ Good f
     → isPair f 0x00 0xB2 ≡ true
     → statusIn (called (afterC img calls) ses cmd buf .result) ≡ 0x9000
     → Reads (sessionIn ses) f (λ k. historyC k img calls) (seen (called (afterC img calls) ses cmd buf))
@@ -185,19 +195,21 @@ abbrev pub C-leaves-none-out : Type 0
 C-leaves-none-out =
     (img : List ℕ) (calls : List CCall) (ses cmd buf : List ℕ) (f : Frame) (x : SearchFields) (r : Rule)
     → wellFormed img ≡ true
+    → AllBytes ses
     → AllBytes cmd
     → refusalIn (called (afterC img calls) ses cmd buf .result) ≡ 0
-    → Searching (sessionIn ses) cmd f x r
+    → Searching (sessionIn ses) (chainOfC ses) cmd f x r
     → Names (historyC (r .kind) img calls) x (f .ne) (seen (called (afterC img calls) ses cmd buf))
 
--- ---- an opening: a session buffer under 25 bytes gets 4, after 3 is tested, and nothing is written there
+-- ---- an opening: a session buffer under 1,054 bytes gets 4, after 3 is tested, and nothing is written there
 
 -- [X4]
 pub record OpenedC (rights ses : List ℕ) : Type 0 where
-  pub taken : length rights ≡ 60 → 25 ≤ length ses → (openResult rights ses ≡ 0) × (isSession (openSession rights ses) ≡ true) × (sessionIn (openSession rights ses) ≡ opened rights)
+  pub taken : length rights ≡ 60 → 1054 ≤ length ses
+      → (openResult rights ses ≡ 0) × (isSessionC (openSession rights ses) ≡ true) × (sessionIn (openSession rights ses) ≡ opened rights) × (chainOfC (openSession rights ses) ≡ NoChain)
   pub refused : (length rights ≡ 60 → ⊥) → openResult rights ses ≡ 3 * 4294967296
-  pub short : length rights ≡ 60 → length ses < 25 → openResult rights ses ≡ 4 * 4294967296
-  pub unwritten : length ses < 25 → openSession rights ses ≡ ses
+  pub short : length rights ≡ 60 → length ses < 1054 → openResult rights ses ≡ 4 * 4294967296
+  pub unwritten : length ses < 1054 → openSession rights ses ≡ ses
 
 -- [X4] [C6]
 abbrev pub C-opens : Type 0

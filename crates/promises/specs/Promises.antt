@@ -20,7 +20,6 @@ use Rattle.machine_session.specs.Session.{opened, sessionFits}
 use Rattle.machine_session.specs.declared.Place.the-variants.{OnRecord}
 use Rattle.machine_session.specs.declared.Session.{Session}
 use Rattle.machine_session.specs.declared.Access.the-variants.{Read}
-use Rattle.machine_apdu.specs.Shape.{shapeOf}
 use Rattle.machine_apdu.specs.declared.Apdu.the-variants.{Good}
 use Rattle.machine_apdu.specs.declared.Frame.{Frame}
 use Rattle.machine_apdu.specs.declared.Header.{Header}
@@ -29,26 +28,31 @@ use Rattle.machine_dispatch.specs.Decide.{dataOf}
 use Rattle.machine_reply_record.specs.Joined.{recordsData}
 use Rattle.machine_reply_search.specs.Found.{foundData}
 use Rattle.machine_answer.specs.Outcome.{Outcome}
-use Rattle.machine.specs.Step.{verdictOn, step, opening}
+use Rattle.machine_chain.specs.Chain.{Chain, NoChain, soFar}
+use Rattle.machine_link.specs.Link.{chainFits}
+use Rattle.machine.specs.Step.{verdictOn, step, chainAfter, opening}
 use Rattle.machine_answer.specs.declared.Answer.{Answer}
-use Rattle.machine_session_bytes.specs.Layout.{isSession, sessionIn}
-use Rattle.malquindo.specs.Face.{openSession, called}
+use Rattle.machine_session_bytes.specs.Layout.{sessionIn}
+use Rattle.malquindo.specs.Face.{openSession, isSessionC, chainOfC, called}
 use Rattle.store_move.specs.Moving.{moveCard, moveCardInto, Numbered}
 use Rattle.store_move.specs.declared.MoveRefusal.{MoveRefusal}
 use Rattle.store_move.specs.declared.Moved.the-variants.{Image, Refused}
 use Rattle.store_move_laws.specs.Same.{heads, FreeZero}
 use Rattle.promises.specs.Words.{words}
 use Rattle.promises.specs.Files.{isMeantByP2, isMeantBySearch, Permitted}
-use Rattle.promises.specs.Calls.{Call, after, isPair, history}
+use Rattle.promises.specs.Calls.{Call, after, isPair, wholeOf, history}
 use Rattle.promises.specs.Matches.{Matches}
 
 -- ---- 1. "When your chip says no, what has it changed?"
 
--- what every outcome of a command leaves of the image, the session and the buffer that came in [C4]
-pub record Kept (img : List ℕ) (s : Session) (buf : List ℕ) (o : Outcome) : Type 0 where
-  -- without 9000 image and session are as they came
+-- what every outcome of a command leaves of the image, the session with its chain, and the buffer that came in; `left` is the chain afterwards [C4]
+pub record Kept (img : List ℕ) (s : Session) (ch : Chain) (buf : List ℕ) (o : Outcome) (left : Chain) : Type 0 where
+  -- without 9000 image and session are as they came, but for a chain, which is dropped
   pub image-kept : (o .answer .status ≡ 0x9000 → ⊥) → o .image ≡ img
   pub session-kept : (o .answer .status ≡ 0x9000 → ⊥) → o .answer .session ≡ s
+  pub chain-dropped : verdictNumber (o .answer .verdict) ≡ 0 → (o .answer .status ≡ 0x9000 → ⊥) → left ≡ NoChain
+  -- a session without a chain stays exactly
+  pub chain-kept : ch ≡ NoChain → (o .answer .status ≡ 0x9000 → ⊥) → left ≡ NoChain
   -- the response buffer changes only where the answer stands
   pub rest-kept : drop (o .answer .length) (o .buffer) ≡ drop (o .answer .length) buf
   pub size-kept : length (o .buffer) ≡ length buf
@@ -56,11 +60,11 @@ pub record Kept (img : List ℕ) (s : Session) (buf : List ℕ) (o : Outcome) : 
   pub number : List·Memᴰ (verdictNumber (o .answer .verdict)) (0 ∷ 1 ∷ 2 ∷ 4 ∷ [])
   -- a refused command changes nothing
   pub refused : 1 ≤ verdictNumber (o .answer .verdict)
-      → (o .answer .length ≡ 0) × (o .answer .status ≡ 0) × (o .answer .session ≡ s) × (o .image ≡ img) × (o .buffer ≡ buf)
+      → (o .answer .length ≡ 0) × (o .answer .status ≡ 0) × (o .answer .session ≡ s) × (left ≡ ch) × (o .image ≡ img) × (o .buffer ≡ buf)
 
 -- [C4]
 abbrev pub Says-no : Type 0
-Says-no = (img : List ℕ) (s : Session) (cmd buf : List ℕ) → Kept img s buf (step img s cmd buf)
+Says-no = (img : List ℕ) (s : Session) (ch : Chain) (cmd buf : List ℕ) → Kept img s ch buf (step img s ch cmd buf) (chainAfter img s ch cmd (length buf))
 
 -- what a command gets that is not refused [C5]
 pub record Answered (o : Outcome) : Type 0 where
@@ -71,9 +75,9 @@ pub record Answered (o : Outcome) : Type 0 where
   pub data-bounded : o .answer .length ≤ 2050
   pub word-last : part (o .buffer) (o .answer .length - 2) 2 ≡ o .answer .status / 256 ∷ o .answer .status % 256 ∷ []
 
--- every accepted command gets a status word, whatever bytes it has [C5]
+-- every accepted command gets a status word, whatever bytes it and its chain have [C5]
 abbrev pub Gets-word : Type 0
-Gets-word = (img : List ℕ) (s : Session) (cmd buf : List ℕ) → AllBytes cmd → verdictNumber (step img s cmd buf .answer .verdict) ≡ 0 → Answered (step img s cmd buf)
+Gets-word = (img : List ℕ) (s : Session) (ch : Chain) (cmd buf : List ℕ) → AllBytes (soFar ch) → AllBytes cmd → verdictNumber (step img s ch cmd buf .answer .verdict) ≡ 0 → Answered (step img s ch cmd buf)
 
 -- an opening has length 0 and status 0. It takes 60 bytes and answers the session that they open; with any other number of bytes it is
 -- refused with number 3 and answers the session that 60 zero bytes open [C6]
@@ -133,12 +137,12 @@ pub record Reads (s : Session) (f : Frame) (rs : ℕ → List (List ℕ)) (o : O
 -- READ RECORD that answers 9000, after any calls [C9]
 abbrev pub Reads-history : Type 0
 Reads-history =
-    (img : List ℕ) (calls : List Call) (s : Session) (cmd buf : List ℕ) (f : Frame)
+    (img : List ℕ) (calls : List Call) (s : Session) (ch : Chain) (cmd buf : List ℕ) (f : Frame)
     → wellFormed img ≡ true
-    → shapeOf cmd ≡ Good f
+    → wholeOf ch cmd ≡ Good f
     → isPair f 0x00 0xB2 ≡ true
-    → step (after img calls) s cmd buf .answer .status ≡ 0x9000
-    → Reads s f (λ k. history k img calls) (step (after img calls) s cmd buf)
+    → step (after img calls) s ch cmd buf .answer .status ≡ 0x9000
+    → Reads s f (λ k. history k img calls) (step (after img calls) s ch cmd buf)
 
 -- ---- 3. "that a search leaves none out?"
 
@@ -146,17 +150,17 @@ Reads-history =
 abbrev pub searchHeader : Header
 searchHeader = record { cla = 0x00; ins = 0xA2; p1 = 0x00; p2 = 0xF8 }
 
--- the bytes cmd are a SEARCH RECORD with the frame f, and its data is the writing of the fields x [C10]
-pub record SearchCommand (cmd : List ℕ) (f : Frame) (x : SearchFields) : Type 0 where
-  pub shape : shapeOf cmd ≡ Good f
+-- the bytes cmd, behind the chain ch, are a SEARCH RECORD with the frame f, and its data is the writing of the fields x [C10]
+pub record SearchCommand (ch : Chain) (cmd : List ℕ) (f : Frame) (x : SearchFields) : Type 0 where
+  pub shape : wholeOf ch cmd ≡ Good f
   pub header : f .header ≡ searchHeader
   pub le : allLe f ≡ true
-  pub writes : dataOf cmd ≡ searchData x
+  pub writes : dataOf ch cmd ≡ searchData x
   pub sized : SearchSized x
 
 -- a search that is well formed and permitted: its file reference means a record file that the session may read [C11]
-pub record Searching (s : Session) (cmd : List ℕ) (f : Frame) (x : SearchFields) (r : Rule) : Type 0 where
-  pub command : SearchCommand cmd f x
+pub record Searching (s : Session) (ch : Chain) (cmd : List ℕ) (f : Frame) (x : SearchFields) (r : Rule) : Type 0 where
+  pub command : SearchCommand ch cmd f x
   pub meant : isMeantBySearch s (x .file) (RecordFile r) ≡ true
   pub permitted : Permitted s Read r
 
@@ -184,32 +188,34 @@ pub record Names (rs : List (List ℕ)) (x : SearchFields) (ne : ℕ) (o : Outco
 -- a search after any calls, which is not refused [C11]
 abbrev pub Leaves-none-out : Type 0
 Leaves-none-out =
-    (img : List ℕ) (calls : List Call) (s : Session) (cmd buf : List ℕ) (f : Frame) (x : SearchFields) (r : Rule)
+    (img : List ℕ) (calls : List Call) (s : Session) (ch : Chain) (cmd buf : List ℕ) (f : Frame) (x : SearchFields) (r : Rule)
     → wellFormed img ≡ true
-    → verdictNumber (step (after img calls) s cmd buf .answer .verdict) ≡ 0
-    → Searching s cmd f x r
-    → Names (history (r .kind) img calls) x (f .ne) (step (after img calls) s cmd buf)
+    → verdictNumber (step (after img calls) s ch cmd buf .answer .verdict) ≡ 0
+    → Searching s ch cmd f x r
+    → Names (history (r .kind) img calls) x (f .ne) (step (after img calls) s ch cmd buf)
 
--- only such a command is answered as a search: one with CLA 00 and INS A2 that gets 9000 or 6282 is one [C12]
+-- only such a command is answered as a search: one with CLA 00 and INS A2 that gets 9000 or 6282 is one, and goes on with the chain [C12]
 abbrev pub Only-searches : Type 0
 Only-searches =
-    (img : List ℕ) (s : Session) (cmd buf : List ℕ) (f : Frame)
+    (img : List ℕ) (s : Session) (ch : Chain) (cmd buf : List ℕ) (f : Frame)
+    → AllBytes (soFar ch)
     → AllBytes cmd
-    → shapeOf cmd ≡ Good f
+    → wholeOf ch cmd ≡ Good f
     → isPair f 0x00 0xA2 ≡ true
-    → (step img s cmd buf .answer .status ≡ 0x9000) ⊎ (step img s cmd buf .answer .status ≡ 0x6282)
-    → (x : SearchFields) × (r : Rule) × Searching s cmd f x r
+    → (step img s ch cmd buf .answer .status ≡ 0x9000) ⊎ (step img s ch cmd buf .answer .status ≡ 0x6282)
+    → (x : SearchFields) × (r : Rule) × Searching s ch cmd f x r
 
 -- a command with that header whose data is no such writing gets 6700 where Lc or Le is not as stated, of step 5, and else 6A80, of step 6 [C12]
 abbrev pub Search-refused : Type 0
 Search-refused =
-    (img : List ℕ) (s : Session) (cmd buf : List ℕ) (f : Frame)
+    (img : List ℕ) (s : Session) (ch : Chain) (cmd buf : List ℕ) (f : Frame)
+    → AllBytes (soFar ch)
     → AllBytes cmd
-    → verdictNumber (step img s cmd buf .answer .verdict) ≡ 0
-    → shapeOf cmd ≡ Good f
+    → verdictNumber (step img s ch cmd buf .answer .verdict) ≡ 0
+    → wholeOf ch cmd ≡ Good f
     → f .header ≡ searchHeader
-    → ((x : SearchFields) → dataOf cmd ≡ searchData x → SearchSized x → ⊥)
-    → step img s cmd buf .answer .status ≡ ifElse (allOf (leb 1 (f .lc) ∷ allLe f ∷ [])) 0x6A80 0x6700
+    → ((x : SearchFields) → dataOf ch cmd ≡ searchData x → SearchSized x → ⊥)
+    → step img s ch cmd buf .answer .status ≡ ifElse (allOf (leb 1 (f .lc) ∷ allLe f ∷ [])) 0x6A80 0x6700
 
 -- the fields x with the file reference v [C22]
 abbrev pub withFile : SearchFields → List ℕ → SearchFields
@@ -232,30 +238,32 @@ pub record Alike (y z : ℕ) (o p : Outcome) : Type 0 where
 -- The low bits of y are not 000: no short id of a file has these [C22]
 abbrev pub Both-spellings : Type 0
 Both-spellings =
-    (img : List ℕ) (s : Session) (cmd other buf : List ℕ) (f : Frame) (x : SearchFields) (y : ℕ)
+    (img : List ℕ) (s : Session) (ch : Chain) (cmd other buf : List ℕ) (f : Frame) (x : SearchFields) (y : ℕ)
     → (y % 8 ≡ 0 → ⊥)
-    → SearchCommand cmd f (withFile x (y ∷ []))
-    → SearchCommand other f (withFile x (8 * y ∷ []))
-    → Alike y (8 * y) (step img s cmd buf) (step img s other buf)
+    → SearchCommand ch cmd f (withFile x (y ∷ []))
+    → SearchCommand ch other f (withFile x (8 * y ∷ []))
+    → Alike y (8 * y) (step img s ch cmd buf) (step img s ch other buf)
 
 -- ---- 4. No session is shut out: of the four refusals only the one for a short buffer can meet a session that the machine gave
 
 -- a session that fits the image is taken after any calls, its own and others' [C14]
 abbrev pub Stays-accepted : Type 0
 Stays-accepted =
-    (img : List ℕ) (calls : List Call) (s : Session) (n : ℕ)
+    (img : List ℕ) (calls : List Call) (s : Session) (ch : Chain) (n : ℕ)
     → wellFormed img ≡ true
     → sessionFits img s ≡ true
+    → chainFits ch ≡ true
     → 2050 ≤ n
-    → verdictNumber (verdictOn (after img calls) s n) ≡ 0
+    → verdictNumber (verdictOn (after img calls) s ch n) ≡ 0
 
--- the session that a command answers fits the image that it leaves [C14]
+-- the session that a command answers fits the image that it leaves, and the chain that it leaves is one that links can have left [C14]
 abbrev pub Answer-fits : Type 0
 Answer-fits =
-    (img : List ℕ) (s : Session) (cmd buf : List ℕ)
+    (img : List ℕ) (s : Session) (ch : Chain) (cmd buf : List ℕ)
     → wellFormed img ≡ true
     → sessionFits img s ≡ true
-    → sessionFits (step img s cmd buf .image) (step img s cmd buf .answer .session) ≡ true
+    → chainFits ch ≡ true
+    → (sessionFits (step img s ch cmd buf .image) (step img s ch cmd buf .answer .session) ≡ true) × (chainFits (chainAfter img s ch cmd (length buf)) ≡ true)
 
 -- the session that an opening answers fits any image [C14]
 abbrev pub Opening-fits : Type 0
@@ -263,19 +271,27 @@ Opening-fits = (img rights : List ℕ) → sessionFits img (opening rights .sess
 
 -- ---- 5. What a program in another language gets is all of it
 
--- the bytes that `malquindo_command` leaves in the session's buffer are the session that the machine answers [X7]
+-- the bytes that `malquindo_command` leaves in the session's buffer are the session that the machine answers, with its chain [X7]
+pub record BytesLeft (img ses cmd buf new : List ℕ) : Type 0 where
+  pub still : isSessionC new ≡ true
+  pub session : sessionIn new ≡ step img (sessionIn ses) (chainOfC ses) cmd buf .answer .session
+  pub chain : chainOfC new ≡ chainAfter img (sessionIn ses) (chainOfC ses) cmd (length buf)
+
+-- [X7]
 abbrev pub Session-bytes : Type 0
 Session-bytes =
     (img ses cmd buf : List ℕ)
-    → isSession ses ≡ true
-    → (isSession (called img ses cmd buf .session) ≡ true) × (sessionIn (called img ses cmd buf .session) ≡ step img (sessionIn ses) cmd buf .answer .session)
+    → AllBytes ses
+    → AllBytes cmd
+    → isSessionC ses ≡ true
+    → BytesLeft img ses cmd buf (called img ses cmd buf .session)
 
--- so are those that `malquindo_open` leaves in a buffer that takes a session [X7]
+-- so are those that `malquindo_open` leaves in a buffer that takes a session; it has no chain [X7]
 abbrev pub Opening-bytes : Type 0
 Opening-bytes =
     (rights ses : List ℕ)
-    → 25 ≤ length ses
-    → (isSession (openSession rights ses) ≡ true) × (sessionIn (openSession rights ses) ≡ opening rights .session)
+    → 1054 ≤ length ses
+    → (isSessionC (openSession rights ses) ≡ true) × (sessionIn (openSession rights ses) ≡ opening rights .session) × (chainOfC (openSession rights ses) ≡ NoChain)
 
 -- its result has the verdict's number, the length and the status, and length and status have room in their 16 bits [X3]
 pub record Whole (result : ℕ) (a : Answer) : Type 0 where
@@ -287,9 +303,10 @@ pub record Whole (result : ℕ) (a : Answer) : Type 0 where
 abbrev pub Result-whole : Type 0
 Result-whole =
     (img ses cmd buf : List ℕ)
+    → AllBytes ses
     → AllBytes cmd
-    → isSession ses ≡ true
-    → Whole (called img ses cmd buf .result) (step img (sessionIn ses) cmd buf .answer)
+    → isSessionC ses ≡ true
+    → Whole (called img ses cmd buf .result) (step img (sessionIn ses) (chainOfC ses) cmd buf .answer)
 
 -- ---- 6. A card moves to a larger chip
 

@@ -74,7 +74,7 @@ pub record NoRight (r : Rights) : Type 0 where
 
 -- a session that is opened with what a refusal gives: all its bytes are zero, which is the master file and no right [CE9] [X15]
 pub record OpenedRefused (ses : List ℕ) : Type 0 where
-  pub zero : take 25 ses ≡ replicate 25 0
+  pub zero : take 1054 ses ≡ replicate 1054 0
   pub no-right : NoRight (sessionIn ses .rights)
 
 -- [CE9] [X15]
@@ -82,5 +82,5 @@ abbrev pub C-rights-refused : Type 0
 C-rights-refused =
     (f s t buf ses : List ℕ)
     → 1 ≤ rightsResult (readRights f s t buf)
-    → 25 ≤ length ses
+    → 1054 ≤ length ses
     → OpenedRefused (openSession (take 60 (readRightsInto f s t buf)) ses)

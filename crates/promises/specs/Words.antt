@@ -3,7 +3,7 @@ use Prim.Native.Nat.{ℕ}
 use mathlib.Core.List.{List, [], _∷_}
 
 -- 9000; 6282, by which a search tells that none matches; then those of steps 1 to 9 in their order,
--- and those that step 10 has of its own [O12]
+-- and those that step 10 has of its own; then 6883 [O12]
 unfoldable pub words : List ℕ
 words =
     0x9000
@@ -20,4 +20,5 @@ words =
     ∷ 0x6B00
     ∷ 0x6A83
     ∷ 0x6A84
+    ∷ 0x6883
     ∷ []

@@ -1,11 +1,12 @@
 // Runs cases through the functions for C, and answers each call by a line. The cases and the lines are made by an independent
 // implementation (host/). Standard input is the cases, one behind the other, each by its first byte:
 // 1, an image: its length (4 bytes, little-endian), its bytes. It is the card's image from now on.
-// 2, a session: its length (1 byte), its bytes. They are the session's bytes from now on, and no more.
-// 3, an opening: the length of the rights (2 bytes, little-endian), the rights. The line: the result, the session's bytes.
+// 2, a session: its length (2 bytes, little-endian), how many of its bytes are given (2 bytes, little-endian), these bytes. They and zeros behind
+//    them, as many as the length says in all, are the session's bytes from now on.
+// 3, an opening: the length of the rights (2 bytes, little-endian), the rights. The line: the result, the session.
 // 4, a command: the length of the response buffer (2 bytes, little-endian), that of the command (2 bytes, little-endian), the
-//    command. The response buffer is filled with A5. The line: the result, the answer (`-` where there is none), the session's bytes, a
-//    hash of the image, a hash of the response buffer.
+//    command. The response buffer is filled with A5. The line: the result, the answer (`-` where there is none), the session, a hash of the
+//    image, a hash of the response buffer.
 // 5, a move: the length of the target (4 bytes, little-endian), that of the list (2 bytes, little-endian), the list. The target is filled
 //    with A5. The line: the result, a hash of the target. Without a refusal the card's image is from now on the first bytes of the
 //    target, as many as the result says.
@@ -24,6 +25,7 @@
 //    little-endian) and its bytes. The buffer is filled with A5. The line: the result, the buffer's bytes.
 // 11, a cut: how many stores are made (8 bytes, little-endian), the length of the command (2 bytes, little-endian), the command. The line: the
 //    result, a hash of the image. The card's image is from now on what the cut left; the session stays.
+// Of a session a line has the first 30 bytes (`-` where there are none) and a hash of all.
 use program_console::result;
 use store_records::little::read16;
 use store_records::little::read32;
@@ -37,10 +39,10 @@ struct Turn {
     session: usize,
 }
 
-// A case that is torn leaves no less than there is.
+// A case that is torn leaves more than there is, so that the program says so.
 fn torn(s: &[u8]) -> Turn {
     Turn {
-        left: s.len(),
+        left: s.len() + 1,
         image: 0,
         session: 0,
     }
@@ -79,28 +81,53 @@ fn image(s: &[u8], card: &mut [u8], session: usize) -> Turn {
     }
 }
 
+// Room for a session: more than one has, so that longer buffers are lent, too.
+fn session_room() -> [u8; 2048]
+    ensures { λ r. ⌜ r ≡ replicate 2048 0 ⌝ }
+{
+    [0; 2048]
+}
+
+// Stores the bytes of a session that are given, and zeros behind them.
+fn keep_session(given: &[u8], kept: &mut [u8]) {
+    let none = session_room();
+    base::put(kept, 0, &none);
+    base::put(kept, 0, given);
+}
+
 // New session bytes.
 fn session(s: &[u8], kept: &mut [u8], image: usize) -> Turn {
-    let bytes = base::part(s, 1, s.len());
-    let n = base::byte(s, 0);
-    if bytes.len() < n {
+    let bytes = base::part(s, 4, s.len());
+    let n = read16(s, 0);
+    let g = read16(s, 2);
+    if bytes.len() < g {
         return torn(s);
     }
     if kept.len() < n {
         return torn(s);
     }
-    base::put(kept, 0, base::part(bytes, 0, n));
+    if n < g {
+        return torn(s);
+    }
+    keep_session(base::part(bytes, 0, g), kept);
     Turn {
-        left: bytes.len() - n,
+        left: bytes.len() - g,
         image,
         session: n,
     }
 }
 
+// Writes a session: most of its bytes are zeros, so the first ones and a hash tell it.
+fn tell_session(kept: &[u8]) {
+    program_console::bytes(base::part(kept, 0, 30));
+    program_console::word(b" ");
+    program_console::number(hash(kept));
+}
+
 // The line of an opening.
 fn open(rights: &[u8], kept: &mut [u8]) {
     program_console::number(malquindo::malquindo_open(rights, kept));
-    program_console::bytes(kept);
+    tell_session(kept);
     program_console::end();
 }
 
@@ -133,7 +160,7 @@ fn run(image: &mut [u8], kept: &mut [u8], command: &[u8], response: &mut [u8]) {
     let r = malquindo::malquindo_command(image, kept, command, response);
     program_console::number(r);
     program_console::bytes(base::part(response, 0, result::length(r)));
-    program_console::bytes(kept);
+    tell_session(kept);
     program_console::word(b" ");
     program_console::number(hash(image));
     program_console::word(b" ");
@@ -521,16 +548,16 @@ fn cases(s: &[u8], card: &mut [u8], kept: &mut [u8]) {
 }
 
 // Room for all input.
-fn input_room() -> [u8; 655360]
-    ensures { λ r. ⌜ r ≡ replicate 655360 0 ⌝ }
+fn input_room() -> [u8; 786432]
+    ensures { λ r. ⌜ r ≡ replicate 786432 0 ⌝ }
 {
-    [0; 655360]
+    [0; 786432]
 }
 
 fn main() {
     let mut input = input_room();
     let mut card = program_console::room();
-    let mut kept = [0; 64];
+    let mut kept = session_room();
     let n = io::read_full(0, &mut input);
     cases(&input[..n], &mut card, &mut kept);
 }

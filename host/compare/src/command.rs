@@ -95,7 +95,8 @@ fn choose(random: &mut Random, view: &View) -> Name {
 /// One field of a command otherwise than it was.
 fn spoil_a_field(random: &mut Random, apdu: &mut Apdu, size: Size) {
     match random.below(10) {
-        0 => apdu.cla = random.pick(&[0x00, 0x80, 0x01, 0x0C, 0x84, 0xFF]),
+        // 10 and 90 are links, of which the last is missing.
+        0 => apdu.cla = random.pick(&[0x00, 0x80, 0x10, 0x90, 0x01, 0x0C, 0x84, 0xFF]),
         1 => apdu.ins = random.byte(),
         2 => {
             let (_, _, cla, ins) = NAMES[random.below(NAMES.len())];

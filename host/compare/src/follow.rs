@@ -3,6 +3,7 @@
 //! them again.
 
 use crate::card::{self, Size};
+use crate::chains;
 use crate::command;
 use crate::cuts::{self, Room};
 use crate::index;
@@ -10,7 +11,7 @@ use crate::make::{self, Apdu, Rule, RIGHTS_LEN, RULES, SESSION_LEN, SHORTEST_RES
 use crate::moving;
 use crate::random::Random;
 use crate::step::{IndexCall, State, Step};
-use crate::view::{self, View};
+use crate::view::{self, Chain, View};
 
 /// What comes next.
 #[derive(Clone, Copy)]
@@ -90,7 +91,12 @@ impl Follow {
             }
             Phase::ReadAgain => {
                 self.phase = Phase::End;
-                self.read_again(body, &state.answers)
+                let mut steps = self.read_again(body, &state.answers);
+                if Chain::of(&state.session).is_some() {
+                    // The first command ends the chain, or is told to.
+                    steps.insert(0, self.select());
+                }
+                steps
             }
             Phase::End => vec![],
         }
@@ -149,7 +155,7 @@ impl Follow {
     /// An append to the file that is cut; one that is not where the file has no room.
     fn cut(&self, random: &mut Random, view: &View) -> Vec<Step> {
         match Room::of_rule(view, self.rule) {
-            Some(room) => self.here(view, cuts::append(random, &room, self.size)),
+            Some(room) => self.here(view, vec![cuts::append(random, &room, self.size)]),
             None => self.append(random, view),
         }
     }
@@ -162,16 +168,19 @@ impl Follow {
         let length = random.between(1, longest);
         let data = random.bytes(length);
         let append = Apdu::new(0x00, 0xE2, 0x00, self.rule.short_id << 3).data(data);
-        self.here(view, run(append.bytes(), None))
+        let steps = match random.one_in(6) {
+            true => chains::plain(random, &append),
+            false => vec![run(append.bytes(), None)],
+        };
+        self.here(view, steps)
     }
 
-    /// The step in the file's application.
-    fn here(&self, view: &View, step: Step) -> Vec<Step> {
-        if view.application == self.rule.application {
-            vec![step]
-        } else {
-            vec![self.select(), step]
+    /// The steps in the file's application.
+    fn here(&self, view: &View, mut steps: Vec<Step>) -> Vec<Step> {
+        if view.application != self.rule.application {
+            steps.insert(0, self.select());
         }
+        steps
     }
 
     fn select(&self) -> Step {

@@ -9,18 +9,19 @@
 //! - [`card`], [`rights`], [`objects`], [`command`], [`moving`], [`bodies`], [`certificates`],
 //!   [`index`]: made-up images, rights and sessions, data objects, commands, moves, bodies of record
 //!   files, certificates to find, and calls of an index; [`cuts`]: commands that are cut;
+//!   [`chains`]: commands that are sent in links;
 //! - [`stamp_faults`], [`stamps`]: what may be wrong with a stamp, and made-up stamps to read;
 //! - [`extension_faults`], [`extensions`]: the same of extensions to read rights from;
 //! - [`follow`]: an index that is kept beside a card;
 //! - [`line`]: a step and what comes of it;
-//! - [`binary_scene`], [`cut_scene`], [`index_scene`], [`stamp_scene`], [`extension_scene`],
-//!   [`scene`]: the calls that every run begins with; [`extension_more`]: more of those that a run of
-//!   rights alone begins with;
+//! - [`binary_scene`], [`chain_scene`], [`cut_scene`], [`index_scene`], [`stamp_scene`],
+//!   [`extension_scene`], [`scene`]: the calls that every run begins with; [`extension_more`]: more of
+//!   those that a run of rights alone begins with;
 //! - [`sequence`]: the calls, in sequences on one card each;
 //! - [`talk`]: commands for one card, each with the library's answer;
-//! - [`binary_tally`], [`cut_tally`], [`sort`], [`index_tally`], [`stamp_sort`], [`stamp_tally`],
-//!   [`extension_sort`], [`extension_tally`], [`tally`]: what sort of call of an index it is, of read
-//!   of a stamp and of rights; how often each sort and each outcome occurred;
+//! - [`binary_tally`], [`chain_tally`], [`cut_tally`], [`sort`], [`index_tally`], [`stamp_sort`],
+//!   [`stamp_tally`], [`extension_sort`], [`extension_tally`], [`tally`]: what sort of call of an
+//!   index it is, of read of a stamp and of rights; how often each sort and each outcome occurred;
 //! - [`sides`]: both implementations, side by side;
 //! - [`sample`]: a sample of calls as data.
 
@@ -31,6 +32,9 @@ pub mod binary_tally;
 pub mod bodies;
 pub mod card;
 pub mod certificates;
+pub mod chain_scene;
+pub mod chain_tally;
+pub mod chains;
 pub mod command;
 pub mod cut_scene;
 pub mod cut_tally;

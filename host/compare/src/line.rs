@@ -3,12 +3,12 @@
 use crate::make::{self, Apdu, SESSION_LEN, SHORTEST_RESPONSE};
 use crate::step::Step;
 
-/// A step and what comes of it: a command's answer in hexadecimal; how many stores a cut command
-/// has, or `refusal` and its number, and a hash of the image; `refusal` and its number, or how many
-/// bytes the new image has; how many bytes a file has and where, or `none`; of each certificate the
-/// body that has it, its place there and its bytes, or `missing`, or `refusal 9`, with a comma
-/// between them; of an index, a stamp and rights what their own scenes say; nothing for what is no
-/// call, and for the opening.
+/// A step and what comes of it: a command's answer in hexadecimal, or `refusal` and its number; how
+/// many stores a cut command has, or `refusal` and its number, and a hash of the image; `refusal` and
+/// its number, or how many bytes the new image has; how many bytes a file has and where, or `none`; of
+/// each certificate the body that has it, its place there and its bytes, or `missing`, or
+/// `refusal 9`, with a comma between them; of an index, a stamp and rights what their own scenes say;
+/// nothing for what is no call, and for the opening.
 pub type Line = (Step, String);
 
 pub fn card(image: Vec<u8>) -> Line {

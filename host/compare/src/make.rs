@@ -44,7 +44,15 @@ pub const LARGEST_ROOM: usize = 131_072;
 /// The most bytes that a reply has in front of its status word.
 pub const LONGEST_REPLY: usize = 2_048;
 pub const SECTION_HEADER: usize = 6;
-pub const SESSION_LEN: usize = 25;
+/// Bytes of a session before its chain: rights, application, place.
+pub const STANDING_LEN: usize = 25;
+/// Where the data of a session's chain stand: behind its length, INS, P1 and P2.
+pub const CHAIN_DATA: usize = STANDING_LEN + 5;
+pub const SESSION_LEN: usize = CHAIN_DATA + LONGEST_DATA;
+/// The most data that a command has, be it of one link or of all links joined.
+pub const LONGEST_DATA: usize = 1_024;
+/// The bit of CLA that says that more links follow.
+pub const MORE: u8 = 0x10;
 /// The rights of one certificate, and of the three of a chain.
 pub const CERTIFICATE_LEN: usize = 20;
 pub const RIGHTS_LEN: usize = 60;
@@ -216,6 +224,22 @@ impl Apdu {
     pub fn extended(mut self, extended: bool) -> Self {
         self.extended = extended;
         self
+    }
+
+    /// The same header and form without data and Le.
+    pub fn bare(&self) -> Self {
+        Self::new(self.cla, self.ins, self.p1, self.p2).extended(self.extended)
+    }
+
+    /// A link but the last.
+    pub fn link(mut self) -> Self {
+        self.cla |= MORE;
+        self
+    }
+
+    /// INS, P1 and P2, which all links of a chain share.
+    pub fn header(&self) -> [u8; 3] {
+        [self.ins, self.p1, self.p2]
     }
 
     /// The command of these bytes; none where they have none of the seven shapes.

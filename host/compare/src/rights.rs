@@ -1,6 +1,6 @@
 //! Made-up rights and sessions.
 
-use crate::make::{self, CERTIFICATE_LEN, RULES, SESSION_LEN};
+use crate::make::{self, CERTIFICATE_LEN, RULES, SESSION_LEN, STANDING_LEN};
 use crate::random::Random;
 use crate::view::View;
 
@@ -65,21 +65,39 @@ pub fn session(random: &mut Random, view: &View, given: &[u8]) -> Vec<u8> {
     }
     match random.below(8) {
         0 => {
-            let at = random.below(SESSION_LEN);
+            // The chain has most of the bytes, and its own makers.
+            let at = match random.one_in(4) {
+                true => random.below(SESSION_LEN),
+                false => random.below(STANDING_LEN),
+            };
             session[at] ^= 1 << random.below(8);
         }
         1 => session[20] = random.below(5) as u8,
         2 => session[24] = random.byte(),
         3 => {
-            let length = random.below(41);
+            let length = match random.coin() {
+                true => random.near(SESSION_LEN),
+                false => random.below(41),
+            };
             session.resize(length, 0xA5);
         }
         4 => {
-            let length = random.pick(&[0, 24, 25, 25, 26, 40]);
-            session = random.bytes(length);
+            let length = random.pick(&[0, 24, 25, SESSION_LEN, SESSION_LEN + 1]);
+            session = made_up(random, length);
         }
         _ => put_place(random, view, &mut session),
     }
+    session
+}
+
+/// A buffer of so many bytes. Mostly only its first are made up, so that a sample has room for it.
+pub fn made_up(random: &mut Random, length: usize) -> Vec<u8> {
+    let some = match random.one_in(12) {
+        true => length,
+        false => length.min(40),
+    };
+    let mut session = random.bytes(some);
+    session.resize(length, 0);
     session
 }
 

@@ -5,6 +5,7 @@ use crate::card::Size;
 use crate::extension::Runs;
 use crate::extension_scene;
 use crate::hex::{fnv, fnv_of_places, hex};
+use crate::make::CHAIN_DATA;
 use crate::sequence::Sequence;
 use crate::stamp_scene;
 use crate::step::{IndexCall, State, Step};
@@ -12,9 +13,11 @@ use crate::tally::Tally;
 use std::ops::RangeInclusive;
 
 /// The seed of the sample that is kept as data.
-pub const SEED: u64 = 94_175;
+pub const SEED: u64 = 94_677;
 /// The most bytes the sample may have. The program that reads it has room for 655,360 bytes.
 pub const LONGEST: usize = 640_000;
+/// How many bytes of a session the output has: those before the data of its chain.
+const TOLD: usize = CHAIN_DATA;
 /// What the response buffer holds before each command, and the target before each move.
 const FILL: u8 = 0xA5;
 
@@ -35,17 +38,23 @@ impl Sample {
                 break;
             }
             sample.stdin.extend(stdin);
-            for (text, step, results) in lines {
-                sample.stdout.push_str(&text);
-                sample.tally.step(&step, &results);
+            for line in lines {
+                sample.stdout.push_str(&line.text);
+                sample.tally.step(&line.step, &line.before, &line.results);
             }
         }
         sample
     }
 }
 
-/// A line of output for each call of a step, the step, and the results of the calls.
-type Lines = (String, Step, Vec<u64>);
+/// A step that has calls.
+struct Lines {
+    /// A line of output for each call.
+    text: String,
+    step: Step,
+    before: State,
+    results: Vec<u64>,
+}
 
 fn one_sequence(seed: u64, number: u64) -> (Vec<u8>, Vec<Lines>) {
     let mut sequence = Sequence::new(seed, number, Size::Small);
@@ -54,9 +63,15 @@ fn one_sequence(seed: u64, number: u64) -> (Vec<u8>, Vec<Lines>) {
     let mut lines = Vec::new();
     while let Some(step) = sequence.next(&state) {
         encode(&step, &mut stdin);
+        let before = state.clone();
         if let Some(text) = done(&mut state, &step) {
             let results = state.results(&step).to_vec();
-            lines.push((text, step, results));
+            lines.push(Lines {
+                text,
+                step,
+                before,
+                results,
+            });
         }
     }
     (stdin, lines)
@@ -97,7 +112,13 @@ fn done(state: &mut State, step: &Step) -> Option<String> {
 /// Opens a session and says what it is then.
 fn open(state: &mut State, rights: &[u8]) -> String {
     state.result = reference::open(rights, &mut state.session);
-    format!("{} {}\n", state.result, hex(&state.session))
+    format!("{} {}\n", state.result, told(&state.session))
+}
+
+/// A session in the output: its first bytes, and a hash of all, since most of them are zeros.
+fn told(session: &[u8]) -> String {
+    let first = &session[..session.len().min(TOLD)];
+    format!("{} {}", hex(first), fnv(session))
 }
 
 /// Runs a command and says what it did.
@@ -109,7 +130,7 @@ fn run(state: &mut State, response_len: usize, command: &[u8]) -> String {
         "{} {} {} {} {}\n",
         state.result,
         hex(&response[..length]),
-        hex(&state.session),
+        told(&state.session),
         fnv(&state.image),
         fnv(&response)
     )
@@ -208,8 +229,9 @@ fn encode(step: &Step, bytes: &mut Vec<u8>) {
     match step {
         Step::Image(image) => case(1, &[], &[image], bytes),
         Step::Session(session) => {
-            let length = session.len() as u8;
-            case(2, &[&[length], &session[..]], &[], bytes);
+            let given = without_zeros(session);
+            let lengths = [two(session.len()), two(given.len())].concat();
+            case(2, &[&lengths, given], &[], bytes);
         }
         Step::Open(rights) => case(3, &[&two(rights.len()), rights], &[], bytes),
         Step::Command {
@@ -254,6 +276,12 @@ fn case(number: u8, head: &[&[u8]], parts: &[&Vec<u8>], bytes: &mut Vec<u8>) {
     }
 }
 
+/// The bytes up to the last that is not zero. Of a session no more are given.
+fn without_zeros(bytes: &[u8]) -> &[u8] {
+    let end = bytes.iter().rposition(|byte| *byte != 0);
+    &bytes[..end.map_or(0, |last| last + 1)]
+}
+
 /// A number in two bytes.
 fn two(number: usize) -> [u8; 2] {
     (number as u16).to_le_bytes()
@@ -273,4 +301,35 @@ fn index_head(call: IndexCall, places: &[u32]) -> Vec<u8> {
     head.extend(two(places.len()));
     head.extend(places.iter().flat_map(|place| place.to_le_bytes()));
     head
+}
+
+#[cfg(test)]
+mod tests {
+    use super::*;
+
+    fn encoded(session: Vec<u8>) -> Vec<u8> {
+        let mut bytes = Vec::new();
+        encode(&Step::Session(session), &mut bytes);
+        bytes
+    }
+
+    #[test]
+    fn a_session_is_given_up_to_its_zeros() {
+        assert_eq!(encoded(vec![]), [2, 0, 0, 0, 0]);
+        assert_eq!(encoded(vec![0; 3]), [2, 3, 0, 0, 0]);
+        assert_eq!(encoded(vec![0, 7, 0]), [2, 3, 0, 2, 0, 0, 7]);
+        let mut session = vec![0; 1_054];
+        session[0] = 9;
+        assert_eq!(encoded(session.clone()), [2, 0x1E, 4, 1, 0, 9]);
+        session[1_053] = 1;
+        assert_eq!(encoded(session)[..5], [2, 0x1E, 4, 0x1E, 4]);
+    }
+
+    #[test]
+    fn a_session_is_told_by_its_first_bytes() {
+        assert_eq!(told(&[]), format!("- {}", fnv(&[])));
+        assert_eq!(told(&[1, 2]), format!("0102 {}", fnv(&[1, 2])));
+        let long = [0xAB; 1_054];
+        assert_eq!(told(&long), format!("{} {}", "ab".repeat(30), fnv(&long)));
+    }
 }

@@ -1,10 +1,11 @@
 //! The calls that every run begins with: a card with the travel application, moved to larger
 //! rooms and on to others, with commands before and behind each move, and each refusal of a move;
-//! then files that are read and written by offsets in objects; then commands that are cut; then files
-//! to find, and certificates to find in bodies of each sort; then an index, beside a card and alone;
-//! then stamps; then rights, for a card and alone.
+//! then files that are read and written by offsets in objects; then commands that are cut; then
+//! commands that come in links; then files to find, and certificates to find in bodies of each sort;
+//! then an index, beside a card and alone; then stamps; then rights, for a card and alone.
 
 use crate::binary_scene;
+use crate::chain_scene;
 use crate::cut_scene;
 use crate::extension_scene::{self, torn_chain, travel_chain};
 use crate::hex::hex;
@@ -40,6 +41,7 @@ pub fn lines() -> Vec<Line> {
         the_longest_card(),
         binary_scene::lines(),
         cut_scene::lines(),
+        chain_scene::lines(),
         bad_and_empty_cards(),
         files(),
         no_files(),

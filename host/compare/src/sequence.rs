@@ -3,6 +3,7 @@
 
 use crate::card::{self, Size};
 use crate::certificates;
+use crate::chains;
 use crate::command;
 use crate::cuts;
 use crate::extension_more;
@@ -10,7 +11,7 @@ use crate::extension_scene;
 use crate::extensions;
 use crate::follow::Follow;
 use crate::index;
-use crate::make::{RIGHTS_LEN, SESSION_LEN, SHORTEST_RESPONSE};
+use crate::make::{Apdu, RIGHTS_LEN, SESSION_LEN, SHORTEST_RESPONSE};
 use crate::moving;
 use crate::random::Random;
 use crate::rights;
@@ -45,6 +46,8 @@ pub struct Sequence {
 
 /// One sequence in so many keeps an index beside its card.
 const FOLLOWS: u64 = 10;
+/// One command in so many is sent in links, where it has data.
+const CHAINS: usize = 8;
 /// How many stamps a sequence of stamps reads.
 const STAMPS: usize = 40;
 /// How often a sequence of rights reads some.
@@ -127,10 +130,10 @@ impl Sequence {
     fn on_a_card(mut random: Random, size: Size) -> Self {
         let image = card::image(&mut random, size);
         let session_len = match random.below(8) {
-            0 => random.between(SESSION_LEN, 40),
+            0 => random.between(SESSION_LEN, SESSION_LEN + 15),
             _ => SESSION_LEN,
         };
-        let session = random.bytes(session_len);
+        let session = rights::made_up(&mut random, session_len);
         // The session is opened with made-up rights, or with those of made-up certificates.
         let opens = random.one_in(5);
         let rights = match opens {
@@ -186,13 +189,7 @@ impl Sequence {
         match self.random.below(100) {
             0..=2 => {
                 let made_up = rights::session(&mut self.random, &view, &session);
-                let view = View::new(&state.image, &made_up);
-                self.pending.push_back(Step::Session(made_up));
-                match self.random.below(6) {
-                    0 => self.plan_open(),
-                    1 => self.plan_one_cut(&view, &state.image),
-                    _ => self.plan_command(&view, &state.image),
-                }
+                self.plan_with(made_up, &state.image);
             }
             3..=4 => self.plan_open(),
             5..=9 if self.size == Size::Any || self.random.one_in(4) => {
@@ -213,7 +210,42 @@ impl Sequence {
                 self.opens = true;
             }
             33..=36 => self.plan_cut(&view, &state.image),
+            37..=38 if session.len() >= SESSION_LEN => {
+                let mut made_up = session;
+                chains::put_some(&mut self.random, &mut made_up, self.size);
+                self.plan_with(made_up, &state.image);
+            }
+            39 => self.plan_held(&view, &state.image, &session),
             _ => self.plan_command(&view, &state.image),
+        }
+    }
+
+    /// A made-up session, and something to do with it.
+    fn plan_with(&mut self, made_up: Vec<u8>, image: &[u8]) {
+        let view = View::new(image, &made_up);
+        self.pending.push_back(Step::Session(made_up));
+        match self.random.below(6) {
+            0 => self.plan_open(),
+            1 => self.plan_one_cut(&view, image),
+            _ => self.plan_command(&view, image),
+        }
+    }
+
+    /// A session that holds the first part of a command, and the rest of that command.
+    fn plan_held(&mut self, view: &View, image: &[u8], session: &[u8]) {
+        let command = command::command(&mut self.random, view, image, self.size);
+        let command = match self.size {
+            Size::Any if self.random.coin() => chains::full(&mut self.random, view),
+            _ => None,
+        }
+        .or_else(|| Apdu::read(&command));
+        let steps = command.and_then(|command| chains::held(&mut self.random, &command, session));
+        match steps {
+            Some(steps) => {
+                self.moved = false;
+                self.pending.extend(steps);
+            }
+            None => self.plan_command(view, image),
         }
     }
 
@@ -250,6 +282,8 @@ impl Sequence {
         self.pending.push_back(Step::Open(chain));
     }
 
+    /// A command. Amid a chain it goes on with that, mostly; else some that have data are sent in
+    /// links.
     fn plan_command(&mut self, view: &View, image: &[u8]) {
         self.moved = false;
         let response_len = match self.random.below(60) {
@@ -258,7 +292,19 @@ impl Sequence {
             2 | 3 => SHORTEST_RESPONSE,
             _ => self.random.between(SHORTEST_RESPONSE, 2_100),
         };
-        let command = command::command(&mut self.random, view, image, self.size);
+        let command = match &view.chain {
+            Some(chain) if !self.random.one_in(3) => {
+                chains::go_on(&mut self.random, chain, self.size)
+            }
+            _ => command::command(&mut self.random, view, image, self.size),
+        };
+        if let (None, true) = (&view.chain, self.random.one_in(CHAINS)) {
+            if let Some(apdu) = Apdu::read(&command).filter(|apdu| apdu.data.is_some()) {
+                let steps = chains::steps(&mut self.random, &apdu, self.size);
+                self.pending.extend(steps);
+                return;
+            }
+        }
         self.pending.push_back(Step::Command {
             response_len,
             command,

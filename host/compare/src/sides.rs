@@ -188,7 +188,8 @@ fn compare_sequences(
                     reference: sides.reference,
                 }));
             }
-            tally.step(&step, sides.reference.state.results(&step));
+            let results = sides.reference.state.results(&step);
+            tally.step(&step, &sides.before.state, results);
             sides.go_on(&step);
             step_number += 1;
         }

@@ -1,21 +1,22 @@
 //! How often each outcome occurred.
 
 use crate::binary_tally::BinaryTally;
+use crate::chain_tally::ChainTally;
 use crate::command::NAMES;
 use crate::cut_tally::CutTally;
 use crate::extension_tally::ExtensionTally;
 use crate::index_tally::IndexTally;
-use crate::make;
+use crate::make::{self, MORE};
 use crate::stamp_tally::StampTally;
-use crate::step::Step;
+use crate::step::{State, Step};
 use crate::view;
 use std::collections::BTreeMap;
 use std::fmt;
 
 /// All status words that the rules have.
-pub const STATUSES: [u16; 14] = [
-    0x6282, 0x6700, 0x6981, 0x6982, 0x6986, 0x6A80, 0x6A82, 0x6A83, 0x6A84, 0x6A86, 0x6B00, 0x6D00,
-    0x6E00, 0x9000,
+pub const STATUSES: [u16; 15] = [
+    0x6282, 0x6700, 0x6883, 0x6981, 0x6982, 0x6986, 0x6A80, 0x6A82, 0x6A83, 0x6A84, 0x6A86, 0x6B00,
+    0x6D00, 0x6E00, 0x9000,
 ];
 
 /// How a search may name its file.
@@ -26,6 +27,9 @@ const SEARCH_STATUSES: [u16; 6] = [0x9000, 0x6282, 0x6700, 0x6981, 0x6982, 0x6A8
 /// What READ BINARY B1 may answer beside 9000 once it is known to be one.
 const B1_STATUSES: [u16; 7] = [0x6700, 0x6981, 0x6982, 0x6986, 0x6A80, 0x6A82, 0x6B00];
 
+/// No sort of chain is wanted more often than this: there are many, and the scene has each as often.
+const CHAIN_MOST: u64 = 3;
+
 /// What a move may be refused with.
 pub const MOVE_REFUSALS: [u64; 5] = [2, 10, 11, 12, 13];
 
@@ -34,8 +38,10 @@ const CERTIFICATES: [&str; 4] = ["refusal 9", "missing", "card", "desk"];
 /// What the body of certificates may be like that a reference is looked up in.
 const FORMS: [&str; 4] = ["damaged", "empty", "full", "other"];
 
+/// Where a link but the last belongs, whatever its command is.
+const LINK: usize = NAMES.len();
 /// Where a command belongs that has none of the nine pairs of CLA and INS.
-const OTHER: usize = NAMES.len();
+const OTHER: usize = LINK + 1;
 
 #[derive(Default)]
 pub struct Tally {
@@ -59,6 +65,7 @@ pub struct Tally {
     /// Calls by reference, without those that were refused.
     references: BTreeMap<u8, u64>,
     pub binary: BinaryTally,
+    pub chain: ChainTally,
     pub cut: CutTally,
     pub index: IndexTally,
     pub stamp: StampTally,
@@ -74,12 +81,14 @@ impl Tally {
         self.commands + self.opens + self.moves + others
     }
 
-    /// Counts a step by the results of its calls; an image or a session has none.
-    pub fn step(&mut self, step: &Step, results: &[u64]) {
+    /// Counts a step by what was held before it and by the results of its calls; an image or a
+    /// session has none.
+    pub fn step(&mut self, step: &Step, before: &State, results: &[u64]) {
         if let Step::Certificates { card, desk, .. } = step {
             self.bodies[form(card)][form(desk)] += 1;
         }
         self.binary.step(step, results);
+        self.chain.step(step, before, results);
         self.cut.step(step, results);
         self.index.step(step, results);
         self.stamp.step(step, results);
@@ -165,8 +174,8 @@ impl Tally {
     /// search by an id and by either spelling of a short id, 6981 of the last two, 6A82 of a search by
     /// another byte, each status and each sort of READ BINARY B1, offsets and windows of three bytes,
     /// moves to the largest room, moves done, files found and not, what comes of a reference, bodies
-    /// that are damaged, empty or full, each of the 256 references, cuts by where they fall, each sort
-    /// of call of an index, each fault of a stamp at each place, each fault of an extension.
+    /// that are damaged, empty or full, each of the 256 references, each sort of chain, cuts by where
+    /// they fall, each sort of call of an index, each fault of a stamp at each place, each fault of an extension.
     pub fn missing(&self, each: u64, done: u64) -> Vec<String> {
         let moves = MOVE_REFUSALS.iter().map(|number| {
             let what = format!("refusal {number} of a move");
@@ -179,6 +188,7 @@ impl Tally {
             .chain(moved)
             .chain(self.wanted_files_and_certificates(each, done))
             .chain(self.binary.wanted(each))
+            .chain(self.chain.wanted(each.min(CHAIN_MOST)))
             .chain(self.cut.wanted(each))
             .chain(self.index.wanted(each, done))
             .chain(self.stamp.wanted(each, done))
@@ -256,15 +266,21 @@ fn form(body: &[u8]) -> usize {
     }
 }
 
-/// The command's place in [`NAMES`], by CLA and INS.
+/// The command's place in [`NAMES`], by CLA and INS; one place for all links but the last.
 fn place(command: &[u8]) -> usize {
     let Some((cla, ins)) = command.first().zip(command.get(1)) else {
         return OTHER;
     };
-    NAMES
-        .iter()
-        .position(|(_, _, c, i)| c == cla && i == ins)
-        .unwrap_or(OTHER)
+    let known = |class: u8| {
+        NAMES
+            .iter()
+            .position(|(_, _, c, i)| *c == class && i == ins)
+    };
+    match known(cla & !MORE) {
+        Some(_) if cla & MORE != 0 => LINK,
+        Some(place) => place,
+        None => OTHER,
+    }
 }
 
 /// How a SEARCH RECORD names its file, as a place in [`WAYS`]; none where it is not written as
@@ -308,7 +324,7 @@ impl fmt::Display for Tally {
         writeln!(f, "{index} index calls, {stamps} stamps, {rights} rights\n")?;
         write!(f, "| status |")?;
         let names = NAMES.iter().map(|(_, name, ..)| *name);
-        for name in names.chain(["other", "all"]) {
+        for name in names.chain(["a link", "other", "all"]) {
             write!(f, " {name} |")?;
         }
         write!(f, "\n|---|")?;
@@ -345,7 +361,8 @@ impl fmt::Display for Tally {
             writeln!(f, "| refusal {number} | {} |", self.moved(number))?;
         }
         self.show_files_and_certificates(f)?;
-        write!(f, "{}{}{}", self.binary, self.cut, self.index)?;
+        write!(f, "{}{}", self.binary, self.chain)?;
+        write!(f, "{}{}", self.cut, self.index)?;
         write!(f, "{}{}", self.stamp, self.extension)
     }
 }

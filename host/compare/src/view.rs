@@ -1,8 +1,39 @@
 //! What an image and a session hold, as far as it helps to make up a meaningful command. It
 //! judges nothing: of a damaged image it sees what comes before the damage.
 
-use crate::make::{self, Rule, RULES};
+use crate::make::{self, Rule, CHAIN_DATA, RULES, SESSION_LEN, STANDING_LEN};
 use std::ops::Range;
+
+/// The links so far that a session holds.
+#[derive(Clone, Debug, PartialEq, Eq)]
+pub struct Chain {
+    /// INS, P1, P2.
+    pub header: [u8; 3],
+    pub data: Vec<u8>,
+}
+
+impl Chain {
+    /// The chain that a session's bytes tell of, be it one that links could have left or not. None
+    /// where the length is 0, or more than a chain has, or the buffer is too short for a session.
+    pub fn of(session: &[u8]) -> Option<Self> {
+        let chain = session.get(STANDING_LEN..SESSION_LEN)?;
+        let (&[low, high, ins, p1, p2], data) = chain.split_first_chunk()?;
+        let length = usize::from(u16::from_le_bytes([low, high]));
+        let data = data.get(..length).filter(|data| !data.is_empty())?;
+        Some(Self {
+            header: [ins, p1, p2],
+            data: data.to_vec(),
+        })
+    }
+
+    /// Puts the chain into a session, in place of what was there.
+    pub fn put(&self, session: &mut [u8]) {
+        let length = (self.data.len() as u16).to_le_bytes();
+        session[STANDING_LEN..SESSION_LEN].fill(0);
+        session[STANDING_LEN..CHAIN_DATA].copy_from_slice(&[&length[..], &self.header].concat());
+        session[CHAIN_DATA..CHAIN_DATA + self.data.len()].copy_from_slice(&self.data);
+    }
+}
 
 pub enum Content {
     Constant {
@@ -84,6 +115,8 @@ pub struct View {
     pub application: u8,
     /// The current file's id.
     pub current: Option<u16>,
+    /// The links so far, where the session is amid a chain.
+    pub chain: Option<Chain>,
 }
 
 impl View {
@@ -103,6 +136,7 @@ impl View {
             files,
             application: byte(20),
             current: (byte(21) != 0).then(|| u16::from_le_bytes([byte(22), byte(23)])),
+            chain: Chain::of(session),
         }
     }
 

@@ -1,5 +1,6 @@
 //! The comparison itself, and that it sees a difference where there is one.
 
+use compare::make::SESSION_LEN;
 use compare::sample::{self, Sample, LONGEST};
 use compare::scene;
 use compare::sides::{
@@ -10,7 +11,7 @@ use compare::step::{IndexCall, Step};
 use compare::view;
 
 /// A seed whose first 20,000 calls have each sort often enough.
-const SEED: u64 = 20_033;
+const SEED: u64 = 20_223;
 
 #[test]
 fn twenty_thousand_calls() {
@@ -21,8 +22,14 @@ fn twenty_thousand_calls() {
     assert!(tally.index.long_bodies >= 3, "{tally}");
 }
 
+#[test]
+fn a_session_has_as_many_bytes_on_both_sides() {
+    assert_eq!(malquindo_sys::session_len(), SESSION_LEN);
+    assert_eq!(reference::SESSION_LEN, SESSION_LEN);
+}
+
 /// The reference, each time with something changed that the rules leave alone.
-const WRONG: [Command; 4] = [
+const WRONG: [Command; 5] = [
     |image, session, command, response| {
         let result = reference::command(image, session, command, response);
         flip(image, 100);
@@ -30,7 +37,12 @@ const WRONG: [Command; 4] = [
     },
     |image, session, command, response| {
         let result = reference::command(image, session, command, response);
-        flip(session, 30);
+        flip(session, SESSION_LEN + 5);
+        result
+    },
+    |image, session, command, response| {
+        let result = reference::command(image, session, command, response);
+        flip(session, SESSION_LEN - 1);
         result
     },
     |image, session, command, response| {
@@ -61,7 +73,7 @@ fn a_difference_is_seen_and_repeats() {
             let found = compare_machines(SEED, 20_000, &wrong, &REFERENCE);
             found.err().expect("a difference").to_string()
         };
-        assert!(find().starts_with("DIFFERENCE seed 20033 sequence "));
+        assert!(find().starts_with("DIFFERENCE seed 20223 sequence "));
         assert_eq!(find(), find());
     }
 }
@@ -303,7 +315,10 @@ fn said(step: &Step, line: &str) -> String {
         Step::Cut { .. } => format!("refusal {refusal}, image {rest}"),
         Step::Move { .. } if refusal == 0 => format!("{result} bytes"),
         Step::Move { .. } => format!("refusal {refusal}"),
-        Step::Command { .. } => rest.split(' ').next().unwrap_or_default().to_string(),
+        Step::Command { .. } if refusal == 0 => {
+            rest.split(' ').next().unwrap_or_default().to_string()
+        }
+        Step::Command { .. } => format!("refusal {refusal}"),
         Step::File(_) if result == 0 => "none".to_string(),
         Step::File(_) => format!("{} bytes at {}", result as u32, result >> 32),
         Step::Certificates { .. } => match result >> 28 {

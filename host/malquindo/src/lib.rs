@@ -34,6 +34,9 @@
 //!
 //! [`rights`] reads the rights to open with from the extensions of three certificates.
 //!
+//! [`chained`] splits a command with much data into links, for readers that cannot send it whole.
+//! [`Session::chain`] tells what came in the links so far.
+//!
 //! [`cut`] is for testers: it leaves a card as one that was taken away in the middle of a command.
 //!
 //! [`move_card`] writes a card anew, with other rooms. [`file`](fn@file) finds a file's body in an
@@ -42,10 +45,12 @@
 
 #![forbid(unsafe_code)]
 
+mod chain;
 mod index;
 mod rights;
 mod stamp;
 
+pub use chain::{chained, Chain, CHAIN_LEN};
 pub use index::Index;
 pub use rights::{rights, RightsRefusal};
 pub use stamp::{read_stamp, Stamp, StampFault, StampField, StampReason};
@@ -56,7 +61,7 @@ use std::ops::Range;
 /// How many bytes the rights of three certificates have.
 pub const RIGHTS_LEN: usize = 60;
 /// How many bytes a session has.
-pub const SESSION_LEN: usize = 25;
+pub const SESSION_LEN: usize = 1_054;
 /// How many bytes the response buffer of a command has at least.
 pub const RESPONSE_LEN: usize = 2_050;
 /// How many records a file has at most.
@@ -64,9 +69,10 @@ pub const RECORDS: usize = 254;
 /// How many bytes a stamp has at most.
 pub const STAMP_LEN: usize = 391;
 
-/// A session: 20 rights bytes, application, place, file id and record number.
+/// A session: 20 rights bytes, application, place, file id and record number; then the chain that
+/// is open, with its length, INS, P1 and P2, and 1,024 bytes. What is not used is zero.
 ///
-/// It can be made of any 25 bytes. Each command tests whether they are a session, and whether it
+/// It can be made of any 1,054 bytes. Each command tests whether they are a session, and whether it
 /// fits the image.
 #[derive(Clone, Debug, PartialEq, Eq)]
 pub struct Session([u8; SESSION_LEN]);
@@ -192,7 +198,13 @@ pub fn open(rights: &[u8]) -> Result<Session, Refusal> {
     Ok(Session(session))
 }
 
-/// One command on a card image. Unless the status is 9000, image and session stay as they came.
+/// One command on a card image. Unless the status is 9000, the image stays as it came, and so does
+/// the session, but for an open chain ([`Session::chain`]): every other status drops it. A refusal
+/// keeps it.
+///
+/// The data of a command may come in links, as [`chained`] makes them. A link but the last is answered
+/// 9000 without data, and changes nothing but the session's chain. With an open chain, a command
+/// with another INS, P1 or P2 gets 6883.
 ///
 /// A biometrics file has up to 131,072 bytes. READ BINARY with INS B0 reads from offsets up to
 /// 32,767, with INS B1 from any. P1-P2 of B1 are the file's id, or 0000 for the current file; it
@@ -244,7 +256,9 @@ pub fn command<'r>(
 /// and neither have these two where [`command`] would not answer 9000: the image stays then, and the
 /// answer is 0. UPDATE BINARY is among the others, though it writes.
 ///
-/// The session is only read: it is the one before the command. A refusal is
+/// Of an append in links the last one has the stores of all the data, and a link before it has none.
+///
+/// The session is only read: it is the one before the command, with its chain. A refusal is
 /// [`Refusal::BadImage`] or [`Refusal::BadSession`], and the image stays.
 ///
 /// A record of one byte, cut before its last store; the next append takes its room:

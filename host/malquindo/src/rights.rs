@@ -75,7 +75,7 @@ impl std::error::Error for RightsRefusal {}
 ///
 /// // A right that one certificate lacks is lacking: this one has no extension.
 /// let session = malquindo::open(&malquindo::rights(travel, &[], travel)?)?;
-/// assert_eq!(session.as_bytes(), &[0; 25]);
+/// assert_eq!(session.as_bytes(), &[0; malquindo::SESSION_LEN]);
 ///
 /// let cut = malquindo::rights(travel, travel, &travel[..14]);
 /// assert_eq!(cut, Err(RightsRefusal::BadExtension));

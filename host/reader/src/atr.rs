@@ -17,9 +17,9 @@ const HISTORICAL: [u8; 7] = [
     0b1000_0110,
     // b4 to b1: a data unit has 2 to the power of 1 half-bytes, so offsets count bytes.
     0b0000_0001,
-    // b7: Lc and Le may be extended. b6: EF.ATR/INFO says how long commands and responses may be.
-    // b8 is off: no command chaining. b5 to b1 are off: one logical channel.
-    0b0110_0000,
+    // b8: command chaining. b7: Lc and Le may be extended. b6: EF.ATR/INFO says how long commands and
+    // responses may be. b5 to b1 are off: one logical channel.
+    0b1110_0000,
 ];
 
 /// The whole answer to reset.
@@ -60,7 +60,7 @@ mod tests {
     fn the_bytes() {
         assert_eq!(
             ATR,
-            [0x3B, 0x87, 0x01, 0x80, 0x31, 0xB8, 0x73, 0x86, 0x01, 0x60, 0x1B]
+            [0x3B, 0x87, 0x01, 0x80, 0x31, 0xB8, 0x73, 0x86, 0x01, 0xE0, 0x9B]
         );
     }
 

@@ -1,7 +1,12 @@
 //! The shape of a command.
 
-/// The longest data field of a command.
-const LONGEST_DATA: usize = 1_024;
+use std::borrow::Cow;
+
+/// The longest data field of a command, be it of one link or of all links joined.
+pub const LONGEST_DATA: usize = 1_024;
+
+/// The bit of CLA that says that more links follow, b5.
+const MORE: u8 = 0x10;
 
 /// An Le field as it was sent.
 #[derive(Clone, Copy, Debug, PartialEq, Eq)]
@@ -27,14 +32,21 @@ impl Le {
     }
 }
 
-/// A command cut into its fields. An Lc that is present is never 0, so `data` is never empty.
-#[derive(Clone, Copy, Debug)]
-pub struct Apdu<'a> {
-    pub cla: u8,
+/// What all links of a chain have in common.
+#[derive(Clone, Copy, Debug, PartialEq, Eq)]
+pub struct Header {
     pub ins: u8,
     pub p1: u8,
     pub p2: u8,
-    pub data: Option<&'a [u8]>,
+}
+
+/// A command cut into its fields. An Lc that is present is never 0, so `data` is never empty. It is
+/// owned where it is a join of links.
+#[derive(Clone, Debug)]
+pub struct Apdu<'a> {
+    cla: u8,
+    pub header: Header,
+    data: Option<Cow<'a, [u8]>>,
     pub le: Option<Le>,
 }
 
@@ -48,17 +60,46 @@ impl<'a> Apdu<'a> {
         }
         Some(Self {
             cla,
-            ins,
-            p1,
-            p2,
-            data,
+            header: Header { ins, p1, p2 },
+            data: data.map(Cow::Borrowed),
             le,
         })
     }
 
+    /// The same command with the join of all links for its data. A chain has a byte at least, so
+    /// the join has one too.
+    pub fn with_join(self, join: Vec<u8>) -> Self {
+        Self {
+            data: Some(Cow::Owned(join)),
+            ..self
+        }
+    }
+
+    /// CLA without the bit of chaining.
+    pub fn class(&self) -> u8 {
+        self.cla & !MORE
+    }
+
+    /// Whether this is a link but the last.
+    pub fn more_follow(&self) -> bool {
+        self.cla & MORE != 0
+    }
+
+    pub fn p1(&self) -> u8 {
+        self.header.p1
+    }
+
+    pub fn p2(&self) -> u8 {
+        self.header.p2
+    }
+
     /// P1-P2 as one number: a file id, or an offset of 15 bits.
     pub fn p1_p2(&self) -> u16 {
-        u16::from_be_bytes([self.p1, self.p2])
+        u16::from_be_bytes([self.p1(), self.p2()])
+    }
+
+    pub fn data(&self) -> Option<&[u8]> {
+        self.data.as_deref()
     }
 }
 

@@ -1,9 +1,11 @@
-//! The eight commands; READ BINARY has two forms, INS B0 and INS B1. Each function below makes the
-//! tests of steps 4 to 10 in their order. A status other than 9000 is an `Err`, given before
-//! anything is changed.
+//! The eight commands; READ BINARY has two forms, INS B0 and INS B1. Steps 1 to 4 are made for all
+//! of them in one place, with the chain; the function of each command makes the tests of steps 5 to
+//! 10 in their order. A status other than 9000 is an `Err`, given before anything is changed.
 
 use crate::apdu::{Apdu, Le};
+use crate::chain::Chain;
 use crate::image::{Application, BiometricsFile, File, Layout, RecordFile, TransparentFile};
+use crate::instruction::Instruction;
 use crate::objects::{self, FileName, Search, Update};
 use crate::rights::Use;
 use crate::search;
@@ -16,6 +18,7 @@ pub type Status = u16;
 pub const OK: Status = 0x9000;
 const NOT_FOUND: Status = 0x6282;
 const WRONG_LENGTH: Status = 0x6700;
+const LINK_EXPECTED: Status = 0x6883;
 const WRONG_FILE_TYPE: Status = 0x6981;
 const RIGHT_MISSING: Status = 0x6982;
 const NO_CURRENT_FILE: Status = 0x6986;
@@ -58,7 +61,47 @@ impl Change {
     }
 }
 
-/// Steps 1 to 3: the shape, the class, the instruction; then the command itself.
+/// What came, behind steps 1 to 4.
+enum Received<'a> {
+    /// A link but the last, and the session after it, in which it is held.
+    Link(Session),
+    /// A command that is all there. Amid a chain it is the last link, with the join for its data.
+    Whole(Instruction, Apdu<'a>),
+}
+
+/// Steps 1 to 4: the shape, the class, the instruction, then P1 and P2. Amid a chain the header must
+/// be that of the chain, which is tested behind step 3. Each link passes these steps by itself; what
+/// is joined is tested behind them.
+fn receive<'a>(session: &Session, bytes: &'a [u8]) -> Result<Received<'a>, Status> {
+    let apdu = Apdu::parse(bytes).ok_or(WRONG_LENGTH)?;
+    require(matches!(apdu.class(), 0x00 | 0x80), WRONG_CLA)?;
+    let instruction = Instruction::of_pair(apdu.class(), apdu.header.ins).ok_or(WRONG_INS)?;
+    let chain = session.chain.as_ref();
+    require(
+        chain.is_none_or(|chain| chain.header == apdu.header),
+        LINK_EXPECTED,
+    )?;
+    require(instruction.allows(apdu.p1(), apdu.p2()), WRONG_P1_P2)?;
+    if apdu.more_follow() {
+        let link = data_without_le(&apdu)?;
+        let chain = Chain::behind(chain, apdu.header, link).ok_or(WRONG_LENGTH)?;
+        return Ok(Received::Link(session.amid(chain)));
+    }
+    Ok(Received::Whole(instruction, with_earlier(chain, apdu)?))
+}
+
+/// Step 5 amid a chain: the last link's data is behind that of the links before it.
+fn with_earlier<'a>(chain: Option<&Chain>, last: Apdu<'a>) -> Result<Apdu<'a>, Status> {
+    let Some(chain) = chain else {
+        return Ok(last);
+    };
+    let join = chain
+        .ending_with(last.data().unwrap_or(&[]))
+        .ok_or(WRONG_LENGTH)?;
+    Ok(last.with_join(join))
+}
+
+/// Steps 1 to 4, then the command itself. A link but the last only changes the session.
 pub fn run(
     image: &mut [u8],
     layout: &Layout,
@@ -66,21 +109,22 @@ pub fn run(
     bytes: &[u8],
     response: &mut [u8],
 ) -> Outcome {
-    let apdu = Apdu::parse(bytes).ok_or(WRONG_LENGTH)?;
+    let (instruction, apdu) = match receive(session, bytes)? {
+        Received::Link(session) => return Ok(Done { data: 0, session }),
+        Received::Whole(instruction, apdu) => (instruction, apdu),
+    };
     let card = Card { layout, session };
     let mut reply = Reply::new(response);
-    let session = match (apdu.cla, apdu.ins) {
-        (0x00, 0xA4) => card.select(&apdu),
-        (0x00, 0xB0) => card.read_binary_b0(&apdu, image, &mut reply),
-        (0x00, 0xB1) => card.read_binary_b1(&apdu, image, &mut reply),
-        (0x00, 0xD7) => card.update_binary(&apdu, image),
-        (0x00, 0x44) => card.activate(&apdu).map(|change| change.make(image)),
-        (0x00, 0xE2) => card.append_record(&apdu).map(|change| change.make(image)),
-        (0x00, 0xB2) => card.read_record(&apdu, image, &mut reply),
-        (0x00, 0xA2) => card.search_record(&apdu, image, &mut reply),
-        (0x80, 0x5E) => card.fmm(&apdu, &mut reply),
-        (0x00 | 0x80, _) => Err(WRONG_INS),
-        _ => Err(WRONG_CLA),
+    let session = match instruction {
+        Instruction::Select => card.select(&apdu),
+        Instruction::ReadBinaryB0 => card.read_binary_b0(&apdu, image, &mut reply),
+        Instruction::ReadBinaryB1 => card.read_binary_b1(&apdu, image, &mut reply),
+        Instruction::UpdateBinary => card.update_binary(&apdu, image),
+        Instruction::Activate => card.activate(&apdu).map(|change| change.make(image)),
+        Instruction::AppendRecord => card.append_record(&apdu).map(|change| change.make(image)),
+        Instruction::ReadRecord => card.read_record(&apdu, image, &mut reply),
+        Instruction::SearchRecord => card.search_record(&apdu, image, &mut reply),
+        Instruction::Fmm => card.fmm(&apdu, &mut reply),
     }?;
     Ok(Done {
         data: reply.length,
@@ -89,12 +133,13 @@ pub fn run(
 }
 
 /// The stores of a command in their order. Only an APPEND RECORD or ACTIVATE that would be answered
-/// 9000 has some. UPDATE BINARY writes too, but has no list.
+/// 9000 has some; a link but the last has none, and the last has those of the join. UPDATE BINARY
+/// writes too, but has no list.
 pub fn stores(layout: &Layout, session: &Session, bytes: &[u8]) -> Vec<Store> {
     let card = Card { layout, session };
-    let change = match Apdu::parse(bytes) {
-        Some(apdu) if (apdu.cla, apdu.ins) == (0x00, 0x44) => card.activate(&apdu),
-        Some(apdu) if (apdu.cla, apdu.ins) == (0x00, 0xE2) => card.append_record(&apdu),
+    let change = match receive(session, bytes) {
+        Ok(Received::Whole(Instruction::Activate, apdu)) => card.activate(&apdu),
+        Ok(Received::Whole(Instruction::AppendRecord, apdu)) => card.append_record(&apdu),
         _ => return vec![],
     };
     change.map_or(vec![], |change| change.stores)
@@ -108,13 +153,13 @@ struct Card<'a> {
 }
 
 impl Card<'_> {
-    /// SELECT: an application, a file of the selected application, or the master file.
+    /// SELECT: by P1 an application, a file of the selected application, or the master file.
     fn select(&self, apdu: &Apdu) -> Result<Session, Status> {
-        match apdu.p1_p2() {
-            0x040C => self.select_application(data_without_le(apdu)?),
-            0x020C => self.select_file(two_bytes(data_without_le(apdu)?)?),
-            0x000C => self.select_master_file(two_bytes(data_without_le(apdu)?)?),
-            _ => Err(WRONG_P1_P2),
+        let data = data_without_le(apdu)?;
+        match apdu.p1() {
+            0x04 => self.select_application(data),
+            0x02 => self.select_file(two_bytes(data)?),
+            _ => self.select_master_file(two_bytes(data)?),
         }
     }
 
@@ -149,13 +194,12 @@ impl Card<'_> {
         image: &[u8],
         reply: &mut Reply,
     ) -> Result<Session, Status> {
-        let by_short_id = apdu.p1 & 0x80 != 0;
-        require(!by_short_id || apdu.p1 & 0x60 == 0, WRONG_P1_P2)?;
-        let (None, Some(le)) = (apdu.data, apdu.le) else {
+        let (None, Some(le)) = (apdu.data(), apdu.le) else {
             return Err(WRONG_LENGTH);
         };
-        let (file, offset) = if by_short_id {
-            (self.file_by_short_id(apdu.p1 & 0x1F)?, usize::from(apdu.p2))
+        let (file, offset) = if apdu.p1() & 0x80 != 0 {
+            let short_id = apdu.p1() & 0x1F;
+            (self.file_by_short_id(short_id)?, usize::from(apdu.p2()))
         } else {
             (self.current_file()?, usize::from(apdu.p1_p2()))
         };
@@ -175,7 +219,7 @@ impl Card<'_> {
         image: &[u8],
         reply: &mut Reply,
     ) -> Result<Session, Status> {
-        let (Some(data), Some(le)) = (apdu.data, apdu.le) else {
+        let (Some(data), Some(le)) = (apdu.data(), apdu.le) else {
             return Err(WRONG_LENGTH);
         };
         let offset = objects::read_offset(data).ok_or(WRONG_DATA)?;
@@ -207,21 +251,19 @@ impl Card<'_> {
 
     /// ACTIVATE of the current file.
     fn activate(&self, apdu: &Apdu) -> Result<Change, Status> {
-        require(apdu.p1_p2() == 0x0000, WRONG_P1_P2)?;
-        require(apdu.data.is_none() && apdu.le.is_none(), WRONG_LENGTH)?;
+        require(apdu.data().is_none() && apdu.le.is_none(), WRONG_LENGTH)?;
         let file = self.current_file()?;
         Ok(Change {
             stores: self.writable_file(&file)?.activate_stores(),
-            session: *self.session,
+            session: self.session.without_chain(),
         })
     }
 
     /// APPEND RECORD. The length is tested before the count and the room. The new record is
     /// current then.
     fn append_record(&self, apdu: &Apdu) -> Result<Change, Status> {
-        require(apdu.p1 == 0 && apdu.p2 & 0x07 == 0, WRONG_P1_P2)?;
         let record = data_without_le(apdu)?;
-        let file = self.file_of_p2(apdu.p2)?;
+        let file = self.file_of_p2(apdu.p2())?;
         let records = record_file(&file)?;
         self.require_right(&file, Use::Append)?;
 
@@ -239,20 +281,16 @@ impl Card<'_> {
 
     /// READ RECORD of one record, or of all from one on, joined and cut.
     fn read_record(&self, apdu: &Apdu, image: &[u8], reply: &mut Reply) -> Result<Session, Status> {
-        let only_one = match apdu.p2 & 0x07 {
-            0b100 => true,
-            0b101 => false,
-            _ => return Err(WRONG_P1_P2),
-        };
         require(
-            apdu.data.is_none() && apdu.le == Some(Le::Extended(0)),
+            apdu.data().is_none() && apdu.le == Some(Le::Extended(0)),
             WRONG_LENGTH,
         )?;
-        let file = self.file_of_p2(apdu.p2)?;
+        let file = self.file_of_p2(apdu.p2())?;
         let records = record_file(&file)?;
         self.require_right(&file, Use::Read)?;
 
-        let first = self.record_of_p1(apdu.p1, records)?;
+        let first = self.record_of_p1(apdu.p1(), records)?;
+        let only_one = apdu.p2() & 0x01 == 0;
         let count = if only_one { 1 } else { usize::MAX };
         for record in records.records(image).skip(first - 1).take(count) {
             let left = LONGEST_REPLY - reply.length;
@@ -285,8 +323,7 @@ impl Card<'_> {
         image: &[u8],
         reply: &mut Reply,
     ) -> Result<Session, Status> {
-        require(apdu.p1_p2() == 0x00F8, WRONG_P1_P2)?;
-        let (Some(data), Some(le)) = (apdu.data, apdu.le.filter(|le| le.is_zero())) else {
+        let (Some(data), Some(le)) = (apdu.data(), apdu.le.filter(|le| le.is_zero())) else {
             return Err(WRONG_LENGTH);
         };
         let search = Search::read(data).ok_or(WRONG_DATA)?;
@@ -311,17 +348,16 @@ impl Card<'_> {
     /// FILE AND MEMORY MANAGEMENT of the current file (P1 00), or of the file that the data names
     /// (P1 01). The low three bits of P2 say which numbers are asked for.
     fn fmm(&self, apdu: &Apdu, reply: &mut Reply) -> Result<Session, Status> {
-        require(apdu.p1 <= 0x01 && apdu.p2 <= 0x07, WRONG_P1_P2)?;
-        let by_name = apdu.p1 == 0x01;
-        require(apdu.data.is_some() == by_name, WRONG_LENGTH)?;
+        let by_name = apdu.p1() == 0x01;
+        require(apdu.data().is_some() == by_name, WRONG_LENGTH)?;
         require(apdu.le.is_some_and(Le::is_zero), WRONG_LENGTH)?;
-        let file = match apdu.data {
+        let file = match apdu.data() {
             Some(data) => self.file_by_name(objects::read_fmm_file(data).ok_or(WRONG_DATA)?)?,
             None => self.current_file()?,
         };
         self.require_right(&file, Use::Read)?;
 
-        put_fmm_reply(&file, apdu.p2, reply)?;
+        put_fmm_reply(&file, apdu.p2(), reply)?;
         Ok(self.session.setting_file(file.id()))
     }
 
@@ -404,8 +440,8 @@ fn require(condition: bool, status: Status) -> Result<(), Status> {
 }
 
 /// The data field of a command that must have one, and no Le.
-fn data_without_le<'a>(apdu: &Apdu<'a>) -> Result<&'a [u8], Status> {
-    match (apdu.data, apdu.le) {
+fn data_without_le<'a>(apdu: &'a Apdu) -> Result<&'a [u8], Status> {
+    match (apdu.data(), apdu.le) {
         (Some(data), None) => Ok(data),
         _ => Err(WRONG_LENGTH),
     }

@@ -7,8 +7,10 @@
 //! - `stores`: single byte stores, made in their order;
 //! - `image`: the card image, its rules, its files and the changes to them;
 //! - `rights`: the rights of a certificate chain;
-//! - `session`: rights, selected application and current place;
 //! - `apdu` and `objects`: readers of the command's shape and its data objects;
+//! - `instruction`: which commands there are, and which P1 and P2 each takes;
+//! - `chain`: the links so far of a command that comes in links;
+//! - `session`: rights, selected application, current place and chain;
 //! - `search`: whether a string occurs in a window;
 //! - `commands`: the eight commands, READ BINARY in its two forms;
 //! - `cut`: what a cut amid a command leaves of the image;
@@ -22,11 +24,13 @@
 
 mod apdu;
 mod certificates;
+mod chain;
 mod commands;
 mod cut;
 mod extensions;
 mod image;
 mod index;
+mod instruction;
 mod moving;
 mod objects;
 mod rights;
@@ -41,8 +45,9 @@ use session::Session;
 
 /// 20 rights bytes (flags, travel, visa, 17 biometrics bytes), application (0 master file,
 /// 1 travel, 2 visa, 3 biometrics), place (0 none, 1 file, 2 file and record), file id
-/// (2 bytes, little-endian), record number; what a place does not use is zero.
-pub const SESSION_LEN: usize = 25;
+/// (2 bytes, little-endian), record number; then the chain: its length (2 bytes, little-endian; 0
+/// for none), INS, P1, P2, 1,024 bytes. What a place or a chain does not use is zero.
+pub const SESSION_LEN: usize = 25 + chain::CHAIN_BYTES;
 
 /// The shortest response buffer that a command takes.
 const SHORTEST_RESPONSE: usize = 2_050;
@@ -91,8 +96,9 @@ pub fn open(rights: &[u8], session: &mut [u8]) -> u64 {
     }
 }
 
-/// One command. Refusals are tested in the order 1, 2, 4. A command that is not refused writes
-/// its data and the status word to the start of the response.
+/// One command, or one link of it. Refusals are tested in the order 1, 2, 4. A command that is not
+/// refused writes its data and the status word to the start of the response. The session is written
+/// on 9000, and where another status drops a chain; else it is not touched.
 ///
 /// The result is refusal * 2^32 + length * 2^16 + status.
 pub fn command(image: &mut [u8], session: &mut [u8], command: &[u8], response: &mut [u8]) -> u64 {
@@ -108,7 +114,12 @@ pub fn command(image: &mut [u8], session: &mut [u8], command: &[u8], response: &
             write_session(&done.session, session);
             answer(response, done.data, commands::OK)
         }
-        Err(status) => answer(response, 0, status),
+        Err(status) => {
+            if before.chain.is_some() {
+                write_session(&before.without_chain(), session);
+            }
+            answer(response, 0, status)
+        }
     }
 }
 
@@ -118,7 +129,8 @@ pub fn command(image: &mut [u8], session: &mut [u8], command: &[u8], response: &
 /// APPEND RECORD of n bytes has n + 4 stores of one byte each: the record's length (low byte, high
 /// byte), its bytes, the count's high byte, the count's low byte. ACTIVATE has one, that of the
 /// state. Any other command has none, and neither has one of these two that would not be answered
-/// 9000 with a response buffer that is long enough.
+/// 9000 with a response buffer that is long enough. Of a chained append the last link has the
+/// stores of the join, and a link before it has none.
 ///
 /// Refusals are tested in the order 2, 4. The image stays then. The result is refusal * 2^32 + how
 /// many stores the command has in all.
@@ -242,12 +254,12 @@ fn read_card(image: &[u8], session: &[u8]) -> Result<(Layout, Session), Refusal>
     Ok((layout, session))
 }
 
-/// The session in the first 25 bytes of a buffer, if they are one.
+/// The session in the first 1,054 bytes of a buffer, if they are one.
 fn read_session(buffer: &[u8]) -> Option<Session> {
     Session::from_bytes(buffer.first_chunk()?)
 }
 
-/// Writes the session into the first 25 bytes of a buffer, or nothing and `false` if it is
+/// Writes the session into the first 1,054 bytes of a buffer, or nothing and `false` if it is
 /// shorter.
 fn write_session(session: &Session, buffer: &mut [u8]) -> bool {
     match buffer.first_chunk_mut() {

@@ -1,8 +1,12 @@
 //! A session, and what commands make of it.
 
+use crate::chain::{Chain, CHAIN_BYTES};
 use crate::image::{Application, File, Layout};
 use crate::rights::{Rights, RIGHTS_LEN};
 use crate::SESSION_LEN;
+
+/// Bytes of a session without its chain.
+const STANDING_LEN: usize = SESSION_LEN - CHAIN_BYTES;
 
 /// The current file, if there is one, by its id, and perhaps its current record.
 #[derive(Clone, Copy, Debug, PartialEq, Eq)]
@@ -23,11 +27,13 @@ impl Place {
 }
 
 /// All that is kept between two commands, beside the image.
-#[derive(Clone, Copy, Debug, PartialEq, Eq)]
+#[derive(Clone, Debug, PartialEq, Eq)]
 pub struct Session {
     pub rights: Rights,
     pub application: Application,
     pub place: Place,
+    /// The links so far, amid a command that comes in links.
+    pub chain: Option<Chain>,
 }
 
 impl Session {
@@ -37,13 +43,16 @@ impl Session {
             rights,
             application: Application::MasterFile,
             place: Place::None,
+            chain: None,
         }
     }
 
-    /// The session in 25 bytes, if they are one: application 0 to 3, place 0 to 2, and zero in
-    /// what the place has no use for.
+    /// The session in 1,054 bytes, if they are one: application 0 to 3, place 0 to 2, zero in what
+    /// the place has no use for, and a chain that links could have left.
     pub fn from_bytes(bytes: &[u8; SESSION_LEN]) -> Option<Self> {
-        let [rights @ .., application, place, id_low, id_high, record] = bytes;
+        let (standing, chain) = bytes.split_first_chunk::<STANDING_LEN>()?;
+        let chain = Chain::from_bytes(chain.first_chunk()?).ok()?;
+        let [rights @ .., application, place, id_low, id_high, record] = standing;
         let application = match application {
             0 => Application::MasterFile,
             1 => Application::Travel,
@@ -62,11 +71,12 @@ impl Session {
             rights: Rights::from_bytes(rights),
             application,
             place,
+            chain,
         })
     }
 
-    /// The 25 bytes of a session.
-    pub fn to_bytes(self) -> [u8; SESSION_LEN] {
+    /// The 1,054 bytes of a session.
+    pub fn to_bytes(&self) -> [u8; SESSION_LEN] {
         let (place, id, record) = match self.place {
             Place::None => (0, 0, 0),
             Place::File(id) => (1, id, 0),
@@ -75,13 +85,16 @@ impl Session {
         let [id_low, id_high] = id.to_le_bytes();
         let mut bytes = [0; SESSION_LEN];
         bytes[..RIGHTS_LEN].copy_from_slice(&self.rights.to_bytes());
-        bytes[RIGHTS_LEN..].copy_from_slice(&[
+        bytes[RIGHTS_LEN..STANDING_LEN].copy_from_slice(&[
             self.application as u8,
             place,
             id_low,
             id_high,
             record,
         ]);
+        if let Some(chain) = &self.chain {
+            chain.write(&mut bytes[STANDING_LEN..]);
+        }
         bytes
     }
 
@@ -100,38 +113,51 @@ impl Session {
         place_fits && layout.has(self.application) && self.rights.is_cleared()
     }
 
-    /// After SELECT of an application or the master file: nothing is current.
-    pub fn selecting(self, application: Application) -> Self {
+    /// After a link but the last: the chain alone is new.
+    pub fn amid(&self, chain: Chain) -> Self {
         Self {
-            application,
-            place: Place::None,
-            ..self
+            chain: Some(chain),
+            ..*self
         }
+    }
+
+    /// After a status other than 9000, and after a command that changes no more: the chain is over.
+    pub fn without_chain(&self) -> Self {
+        self.at(self.application, self.place)
+    }
+
+    /// After SELECT of an application or the master file: nothing is current.
+    pub fn selecting(&self, application: Application) -> Self {
+        self.at(application, Place::None)
     }
 
     /// After a command on a file: it is current. Its current record stays, another file's does
     /// not.
-    pub fn setting_file(self, id: u16) -> Self {
+    pub fn setting_file(&self, id: u16) -> Self {
         if self.place.file() == Some(id) {
-            self
+            self.without_chain()
         } else {
             self.dropping_record(id)
         }
     }
 
     /// After SELECT of a file: it is current, and no record is.
-    pub fn dropping_record(self, id: u16) -> Self {
-        Self {
-            place: Place::File(id),
-            ..self
-        }
+    pub fn dropping_record(&self, id: u16) -> Self {
+        self.at(self.application, Place::File(id))
     }
 
     /// After an append or a search: file and record are current.
-    pub fn setting_record(self, id: u16, record: u8) -> Self {
+    pub fn setting_record(&self, id: u16, record: u8) -> Self {
+        self.at(self.application, Place::Record(id, record))
+    }
+
+    /// The session elsewhere. A whole command leaves no chain, so there is none.
+    fn at(&self, application: Application, place: Place) -> Self {
         Self {
-            place: Place::Record(id, record),
-            ..self
+            rights: self.rights,
+            application,
+            place,
+            chain: None,
         }
     }
 }

@@ -327,10 +327,10 @@ fn refused(image: &[u8], session: &[u8], response_len: usize) -> u64 {
 #[test]
 fn refusal_1_response() {
     for length in [0, 1, 2, 2_049] {
-        assert_eq!(refused(&[], &[0; 25], length), 1);
+        assert_eq!(refused(&[], &[0; SESSION_LEN], length), 1);
         assert_eq!(refused(&[1], &[0; 3], length), 1);
     }
-    assert_eq!(refused(&[], &[0; 25], 2_050), 0);
+    assert_eq!(refused(&[], &[0; SESSION_LEN], 2_050), 0);
 }
 
 #[test]
@@ -338,7 +338,7 @@ fn refusal_2_image() {
     let good = travel_image(40);
     // Refusal 2 comes before 4.
     assert_eq!(refused(&[0xFF; 6], &[0; 3], 2_050), 2);
-    let refused = |image: &[u8]| refused(image, &[0; 25], 2_050);
+    let refused = |image: &[u8]| refused(image, &[0; SESSION_LEN], 2_050);
     assert_eq!(refused(&good), 0);
     assert_eq!(refused(&full_image()), 0);
     for length in 1..good.len() {
@@ -398,25 +398,30 @@ fn refusal_2_image() {
 #[test]
 fn refusal_3_and_4_of_opening() {
     for length in [0, 1, 59, 61, 120] {
-        let mut session = [FILL; 30];
+        let mut session = [FILL; SESSION_LEN + 5];
         assert_eq!(open(&vec![0xFF; length], &mut session), 3 << 32);
-        assert_eq!(session[..25], [0; 25]);
-        assert_eq!(session[25..], [FILL; 5]);
-        let mut session = [FILL; 24];
-        assert_eq!(open(&vec![0xFF; length], &mut session), 3 << 32);
-        assert_eq!(session, [FILL; 24]);
+        assert_eq!(session[..SESSION_LEN], [0; SESSION_LEN]);
+        assert_eq!(session[SESSION_LEN..], [FILL; 5]);
+        for short in [0, 24, 25, SESSION_LEN - 1] {
+            let mut session = vec![FILL; short];
+            assert_eq!(open(&vec![0xFF; length], &mut session), 3 << 32);
+            assert_eq!(session, vec![FILL; short]);
+        }
     }
-    let mut session = [FILL; 24];
-    assert_eq!(open(&[0xFF; 60], &mut session), 4 << 32);
-    assert_eq!(session, [FILL; 24]);
+    for short in [0, 24, 25, SESSION_LEN - 1] {
+        let mut session = vec![FILL; short];
+        assert_eq!(open(&[0xFF; 60], &mut session), 4 << 32);
+        assert_eq!(session, vec![FILL; short]);
+    }
 }
 
 #[test]
 fn refusal_4_session() {
     let card = full_image();
-    let session = |rights: [u8; 20], tail: [u8; 5]| [&rights[..], &tail[..]].concat();
+    let session =
+        |rights: [u8; 20], tail: [u8; 5]| [&rights[..], &tail[..], &[0; SESSION_LEN - 25]].concat();
     let check = |tail: [u8; 5]| refused(&card, &session([0; 20], tail), 2_050);
-    for length in 0..25 {
+    for length in 0..SESSION_LEN {
         assert_eq!(refused(&card, &vec![0; length], 2_050), 4);
     }
     assert_eq!(check([3, 0, 0, 0, 0]), 0);
@@ -470,9 +475,9 @@ fn refusal_4_session() {
 #[test]
 fn opening_joins_and_clears() {
     let opened = |rights: &[u8]| {
-        let mut session = [FILL; 25];
+        let mut session = [FILL; SESSION_LEN];
         assert_eq!(open(rights, &mut session), 0);
-        assert_eq!(session[20..], [0; 5]);
+        assert_eq!(session[20..], [0; SESSION_LEN - 20]);
         session[..20].to_vec()
     };
     let mut all = vec![0x07, 0x0F, 0x0F, 0x03];
@@ -590,7 +595,7 @@ fn master_file_rules() {
     let mut card = Machine::new(vec![], &[0; 60]);
     card.expect("00B09E0000", directory, 0x9000);
     assert_eq!(card.place(), (0, 1, 0x2F00, 0));
-    card.expect("00B0810000", "4703860160 7F66080202040002020802", 0x9000);
+    card.expect("00B0810000", "47038601E0 7F66080202040002020802", 0x9000);
     assert_eq!(card.place(), (0, 1, 0x2F01, 0));
     card.expect("00B0000F00", "02", 0x9000);
     card.fails("00B0001000", 0x6B00);
@@ -1193,7 +1198,7 @@ fn smoke() {
                 0 => random.change(&mut image_here),
                 1 => random.change(&mut session_here),
                 2 => image_here = random.bytes(60),
-                _ => session_here = random.bytes(30),
+                _ => session_here = random.bytes(SESSION_LEN + 30),
             }
         }
         let response_len = if random.below(100) == 0 {
@@ -1221,7 +1226,15 @@ fn smoke() {
                 (image, session) = (image_here, session_here);
             }
         } else {
-            assert!(image_here == image_before && session_here == session_before);
+            // A chain that a changed CLA has begun is dropped by a status, and by no refusal.
+            let mut expected = session_before;
+            if refusal(result) == 0 {
+                expected[25..SESSION_LEN].fill(0);
+            }
+            assert!(image_here == image_before && session_here == expected);
+            if refusal(result) == 0 && !spoiled {
+                session = session_here;
+            }
         }
     }
     assert!(refusals[0] > 150_000 && refusals[1..3].iter().all(|n| *n > 0) && refusals[4] > 0);

@@ -325,7 +325,7 @@ fn refusal_4() {
     refused(&image, &transparent, &hex(ACTIVATE), 4);
 }
 
-/// A buffer of more than 25 bytes is a session in its first 25; one of fewer is none.
+/// A buffer of more than 1,054 bytes is a session in its first 1,054; one of fewer is none.
 #[test]
 fn other_lengths_of_the_session() {
     let good = travel_card(40, &[]);
@@ -353,10 +353,10 @@ fn the_order_of_refusals() {
     ];
     for command in commands {
         refused(&[0], &[], &command, 2);
-        refused(&[0], &[0xFF; 25], &command, 2);
+        refused(&[0], &[0xFF; SESSION_LEN], &command, 2);
         refused(&travel_card(40, &[]), &[], &command, 4);
-        refused(&travel_card(40, &[]), &[0xFF; 25], &command, 4);
-        assert_eq!(left(&[], &[0; 25], &command, 9), (vec![], 0));
+        refused(&travel_card(40, &[]), &[0xFF; SESSION_LEN], &command, 4);
+        assert_eq!(left(&[], &[0; SESSION_LEN], &command, 9), (vec![], 0));
     }
 }
 
@@ -429,7 +429,9 @@ fn activations_that_are_not_done() {
         ("00440000 00", 0x6700),
         ("00440000 01 00", 0x6700),
         ("80440000", 0x6D00),
-        ("10440000", 0x6E00),
+        ("10440000", 0x6700),
+        ("10440000 01 00", 0x9000),
+        ("20440000", 0x6E00),
     ];
     no_store(&open, &on(&open, file), &otherwise);
 }

@@ -473,7 +473,8 @@ fn class_and_shape() {
     card.expect("00B1000003540100 00", "5305 0001020304", 0x9000);
     card.fails("80B1000003540100 00", 0x6D00);
     card.fails("01B1000003540100 00", 0x6E00);
-    card.fails("10B1000003540100 00", 0x6E00);
+    card.fails("10B1000003540100 00", 0x6700);
+    card.fails("20B1000003540100 00", 0x6E00);
     // Short Lc with extended Le, and the other way round; a data field that is too short.
     card.fails("00B1000003540100 0000", 0x6700);
     card.fails("00B10000000003540100 00", 0x6700);
@@ -636,7 +637,7 @@ fn record_files() {
 #[test]
 fn the_files_of_the_master_file() {
     let mut card = Machine::new(vec![], &[0; 60]);
-    let info = "47 03 86 01 60 7F 66 08 02 02 04 00 02 02 08 02";
+    let info = "47 03 86 01 E0 7F 66 08 02 02 04 00 02 02 08 02";
     card.fails("00B1000003540100 00", 0x6986);
     card.expect("00B12F0103540100 00", &format!("5310 {info}"), 0x9000);
     assert_eq!(card.place(), (0, 1, 0x2F01, 0));

@@ -1,5 +1,6 @@
 -- The bytes of a session are the rights, the biometrics and the place.
 use Rattle.machine_session_bytes.specs.Layout.{sessionBytes}
+use Rattle.machine_session_bytes.proofs.Storing.{session-length}
 use borrow.Author.Needs.{needs}
 use Rattle.machine_session_bytes.proofs.put_session.Statement.{statement}
 use Rattle.machine_session_bytes.proofs.put_session.Tie as tie
@@ -15,7 +16,7 @@ same-length c = search needs
 
 returns : tie.Need-returns
 unfolding sessionBytes
-returns c = (simp (c .before .before .put-pieces .ensures .0, c .before .before .before .place-bytes .ensures), simp (c .before .before .put-pieces .ensures .1, c .before .before .before .place-bytes .ensures))
+returns c = (simp (c .before .before .put-pieces .ensures .0, c .before .before .before .place-bytes .ensures), simp (c .before .before .put-pieces .ensures .1, c .before .before .before .place-bytes .ensures), session-length (c .before .before .before .before .before .before .before .before .args .s) (c .before .before .before .place-bytes .ensures) (c .before .before .put-pieces .ensures .2))
 
 pub put-session-spec : {M : Type 1} → statement M
 put-session-spec =

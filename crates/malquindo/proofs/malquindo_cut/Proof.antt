@@ -1,11 +1,19 @@
--- `malquindo::malquindo_cut` meets its contract.
-use mathlib.Core.Path.{ap, _∙_}
-use Rattle.base.proofs.Cases.{flag-refused, flag-accepted}
-use Rattle.malquindo.specs.Face.{cutResult}
+-- `malquindo_cut` meets its contract.
 use Rattle.malquindo.proofs.Calling.{cut-answered, cut-refused}
+use Rattle.malquindo.specs.Face.{cutResult}
+use Rattle.base.proofs.Cases.{flag-refused, flag-accepted}
+use mathlib.Core.Path.{ap, _∙_}
 use borrow.Author.Needs.{needs}
 use Rattle.malquindo.proofs.malquindo_cut.Statement.{statement}
 use Rattle.malquindo.proofs.malquindo_cut.Tie as tie
+use Rattle.malquindo.proofs.malquindo_cut.Reads as reads
+use Rattle.malquindo.proofs.malquindo_cut.Lts as lts
+use Rattle.base.proofs.part.Reads as part-reads
+use Rattle.machine_cut.proofs.cut.Reads as cut-reads
+use Rattle.machine_session.proofs.judge.Reads as judge-reads
+use Rattle.machine_session_bytes.proofs.is_session.Reads as is-session-reads
+use Rattle.machine_session_bytes.proofs.session_in.Reads as session-in-reads
+use Rattle.malquindo.proofs.cut_result.Reads as cut-result-reads
 
 is-session-requires : tie.Need-is-session-requires
 is-session-requires c κs = search needs
@@ -25,6 +33,9 @@ returns c = cut-refused _ _ _ _ (flag-refused (c .before .before .before .before
 session-in-requires : tie.Need-session-in-requires
 session-in-requires c κs = search needs
 
+part-requires : tie.Need-part-requires
+part-requires c κs = search needs
+
 cut-requires : tie.Need-cut-requires
 cut-requires c κs = search needs
 
@@ -35,7 +46,7 @@ same-length-2 : tie.Need-same-length-2
 same-length-2 c = search needs
 
 returns-2 : tie.Need-returns-2
-returns-2 c = cut-answered _ _ _ _ (flag-accepted (c .before .before .before .before .before .before .before .is-session .ensures) (c .before .before .before .before .before .before .if1 .left)) (c .before .before .before .before .session-in .ensures) (c .before .before .before .cut .ensures) (c .cut-result2 .ensures)
+returns-2 c = cut-answered _ _ _ _ (flag-accepted (c .before .before .before .before .before .before .before .before .is-session .ensures) (c .before .before .before .before .before .before .before .if1 .left)) (c .before .before .before .before .before .session-in .ensures) (c .before .before .before .before .part .ensures) (c .before .before .before .cut .ensures) (c .cut-result2 .ensures)
 
 pub malquindo-cut-spec : {M : Type 1} → statement M
 malquindo-cut-spec =
@@ -47,6 +58,7 @@ malquindo-cut-spec =
     same-length
     returns
     session-in-requires
+    part-requires
     cut-requires
     cut-result-requires-2
     same-length-2

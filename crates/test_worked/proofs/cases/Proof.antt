@@ -1,4 +1,4 @@
--- `cases` meets its contract, which says nothing. Invariant: the card keeps its room. Measure: the bytes of s from `at` on, of which each case
+-- `cases` meets its contract, which says nothing. Invariant: card and chain keep their room. Measure: the bytes of s from `at` on, of which each case
 -- takes some (`cases::next`).
 use mathlib.Core.Path.{_≡_}
 use Prim.Native.Nat.{_-_}
@@ -9,10 +9,10 @@ use Rattle.test_worked.proofs.cases.Statement.{statement}
 use Rattle.test_worked.proofs.cases.Tie as tie
 
 abbrev Inv-loop : tie.InvT-loop
-Inv-loop s card₀ session₀ len₀ at₀ card session len at = length card ≡ length card₀
+Inv-loop s card₀ session₀ chain₀ len₀ at₀ card session chain len at = (length card ≡ length card₀) × (length chain ≡ 1029)
 
 abbrev μ-loop : tie.MeasureT-loop
-μ-loop s card₀ session₀ len₀ at₀ card session len at = length s - at
+μ-loop s card₀ session₀ chain₀ len₀ at₀ card session chain len at = length s - at
 
 slice-aggregate-open : tie.Need-slice-aggregate-open Inv-loop μ-loop
 slice-aggregate-open c = search needs
@@ -25,6 +25,9 @@ loop-holds c = search needs
 
 part-requires : tie.Need-part-requires Inv-loop μ-loop
 part-requires c κs = search needs
+
+slice-aggregate-case : tie.Need-slice-aggregate-case Inv-loop μ-loop
+slice-aggregate-case c = search needs
 
 case-requires : tie.Need-case-requires Inv-loop μ-loop
 case-requires c κs = search needs
@@ -54,6 +57,7 @@ cases-spec =
     open-requires
     loop-holds
     part-requires
+    slice-aggregate-case
     case-requires
     next-requires
     loop-less

@@ -41,6 +41,9 @@ end-requires c κs = search needs
 same-length : tie.Need-same-length
 same-length c = search needs
 
+same-length-2 : tie.Need-same-length-2
+same-length-2 c = search needs
+
 returns-2 : tie.Need-returns-2
 returns-2 c = search needs
 
@@ -60,4 +63,5 @@ run-spec =
     bytes-requires
     end-requires
     same-length
+    same-length-2
     returns-2)

@@ -47,6 +47,13 @@ pub fn places(image: &[u8], file: &File) -> Option<[usize; 3]> {
     Some([body.start, free, body.end])
 }
 
+/// The record of an append: what it has itself, behind the links before it.
+fn record(view: &View, append: &[u8]) -> Vec<u8> {
+    let earlier = view.chain.as_ref().map_or(&[][..], |chain| &chain.data);
+    let own = Apdu::read(append).and_then(|apdu| apdu.data);
+    [earlier, &own.unwrap_or_default()].concat()
+}
+
 /// The stores of a command in their order; none where it has none.
 pub fn list(image: &[u8], session: &[u8], command: &[u8]) -> Vec<Store> {
     if all(image, session, command) == 0 {
@@ -58,8 +65,7 @@ pub fn list(image: &[u8], session: &[u8], command: &[u8]) -> Vec<Store> {
     if is_activate(command) {
         return vec![(start, 1)];
     }
-    let record = Apdu::read(command).and_then(|apdu| apdu.data);
-    let record = record.expect("a record");
+    let record = record(&view, command);
     let written = [&(record.len() as u16).to_le_bytes()[..], &record].concat();
     let [low, high] = (view::count(&image[start..]) as u16 + 1).to_le_bytes();
     let counted = [(start + 1, high), (start, low)];

@@ -122,6 +122,28 @@ fn power_and_reset_open_a_new_session() {
     assert_eq!(ended, Ok(()));
 }
 
+/// A record in two links; where power or a reset comes amid them, the last link is a command of its own.
+#[test]
+fn power_and_reset_drop_a_chain() {
+    let first = [0x10, 0xE2, 0x00, 0x08, 2, 0xAA, 0xBB];
+    let last = [0x00, 0xE2, 0x00, 0x08, 1, 0xCC];
+    let ended = with_card("chain", &travel_card(40), &ALL_RIGHTS, |mut reader, _| {
+        assert_eq!(reader.ask(&SELECT), [0x90, 0x00]);
+        assert_eq!(reader.ask(&first), [0x90, 0x00]);
+        assert_eq!(reader.ask(&last), [0x90, 0x00]);
+        assert_eq!(reader.ask(&READ_ALL), [0xAA, 0xBB, 0xCC, 0x90, 0x00]);
+        for control in [ON, RESET, OFF] {
+            assert_eq!(reader.ask(&first), [0x90, 0x00]);
+            reader.tell(&control);
+            assert_eq!(reader.ask(&SELECT), [0x90, 0x00]);
+            assert_eq!(reader.ask(&last), [0x90, 0x00]);
+        }
+        let records = [0xAA, 0xBB, 0xCC, 0xCC, 0xCC, 0xCC, 0x90, 0x00];
+        assert_eq!(reader.ask(&READ_ALL), records);
+    });
+    assert_eq!(ended, Ok(()));
+}
+
 #[test]
 fn the_sessions_have_the_rights_given() {
     let mut rights = ALL_RIGHTS;

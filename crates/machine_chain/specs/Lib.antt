@@ -1,0 +1,3 @@
+-- The chain of a session, and its bytes.
+pub mod Chain
+pub mod Layout
