@@ -14,7 +14,7 @@ use std::ops::RangeInclusive;
 
 /// The seed of the sample that is kept as data.
 pub const SEED: u64 = 94_677;
-/// The most bytes the sample may have. The program that reads it has room for 655,360 bytes.
+/// The most bytes the sample may have. The program that reads it has room for 786,432 bytes.
 pub const LONGEST: usize = 640_000;
 /// How many bytes of a session the output has: those before the data of its chain.
 const TOLD: usize = CHAIN_DATA;
