@@ -1,4 +1,6 @@
 // Bytes that are lent: one read, a part of them, a run of them stored. Every place and every length is allowed.
+#![tactic(auto)]
+
 pub mod natural;
 
 ghost use Rattle.std.specs.Prelude.{◌≡◌, ◌+◌, ◌≤◌, ◌<◌, length, get_or};

@@ -1,4 +1,6 @@
 // The command machine: command bytes, rights and card image in; response, status word and image out.
+#![tactic(auto)]
+
 ghost use Rattle.std.specs.Prelude.{◌≡◌, true, [], ◌∷◌, ◌+◌, ◌≤◌, length};
 ghost use Rattle.base.specs.Choice.{all_of};
 ghost use Rattle.base.specs.Bytes.{put};
@@ -29,7 +31,7 @@ use store_kinds::rules::Rule;
 
 // What a command comes to before its data are looked at: a refusal; a status word; a link that joins the chain; or a command that is obeyed, with
 // what the chain has before its data.
-#[derive(Drop)]
+#[derive(Clone, Copy)]
 pub enum Judgement {
     Denied(Refusal),
     Stopped(usize),

@@ -1,4 +1,6 @@
 // What a command comes to: a status word, or an action that answers 9000. Nothing is written here.
+#![tactic(auto)]
+
 pub mod tests;
 
 use objects_templates::{Search, Writes};
@@ -6,7 +8,7 @@ use store_files::{File, Transparent};
 use store_kinds::rules::Rule;
 
 // A status word alone, or what the command does. (SearchRecord answers 9000 where a record matches and the reply fits.)
-#[derive(Drop)]
+#[derive(Clone, Copy)]
 pub enum Action {
     Status(usize),
     // an application, or the master file

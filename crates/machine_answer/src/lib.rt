@@ -1,4 +1,6 @@
 // What a call answers, and the effects that write the card: the image where the effect writes it, and a status word alone.
+#![tactic(auto)]
+
 ghost use Rattle.std.specs.Prelude.{◌≡◌, [], ◌+◌};
 ghost use Rattle.base.specs.Bytes.{part, put};
 ghost use Rattle.store_records.specs.Body.{count};
@@ -21,7 +23,7 @@ use store_kinds::rules::Rule;
 use store_records::body;
 
 // What a call answers.
-#[derive(Drop)]
+#[derive(Clone, Copy)]
 pub struct Answer {
     pub verdict: Verdict,
     pub length: usize,

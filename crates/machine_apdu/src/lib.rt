@@ -1,10 +1,12 @@
 // Command bytes: which of ISO/IEC 7816-4's seven shapes they have, and where the data stands in them.
+#![tactic(auto)]
+
 pub mod status;
 
 ghost use Rattle.std.specs.Prelude.{◌≡◌, ◌<◌, length, get_or};
 ghost use Rattle.machine_apdu.specs.Shape.{be16_at, or_most, framed, shape_of};
 
-#[derive(Drop)]
+#[derive(Clone, Copy)]
 pub struct Header {
     pub cla: usize,
     pub ins: usize,
@@ -14,7 +16,7 @@ pub struct Header {
 
 // The header; where the data begins and how many bytes it has; how many bytes say Le (0 none, 1 a short Le, 2 an extended one); Ne,
 // which is 0 without Le.
-#[derive(Drop)]
+#[derive(Clone, Copy)]
 pub struct Frame {
     pub header: Header,
     pub from: usize,
@@ -23,7 +25,7 @@ pub struct Frame {
     pub ne: usize,
 }
 
-#[derive(Drop)]
+#[derive(Clone, Copy)]
 pub enum Apdu {
     Bad,
     Good(Frame),

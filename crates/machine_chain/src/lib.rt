@@ -1,5 +1,7 @@
 // The chain of a session: the links of a command so far. It stands in bytes that are lent, so that no call copies it: its length (2 bytes,
 // little-endian; 0 where there is none), INS, P1, P2, and room for 1,024 bytes. What it does not use is zero.
+#![tactic(auto)]
+
 ghost use Rattle.std.specs.Prelude.{◌≡◌, ◌+◌, ◌≤◌, length};
 ghost use Rattle.base.specs.Choice.{if_else};
 ghost use Rattle.base.specs.Bytes.{put};

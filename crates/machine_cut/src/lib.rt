@@ -1,5 +1,7 @@
 // A command that is cut: what it leaves of the image where only the first of its stores are made. APPEND RECORD and ACTIVATE have stores, the
 // same that the whole command makes; no other command has any.
+#![tactic(auto)]
+
 ghost use Rattle.std.specs.Prelude.{◌≡◌, ◌++◌, length};
 ghost use Rattle.machine_chain.specs.Chain.{so_far};
 ghost use Rattle.machine_chain.specs.Layout.{chain_in};
@@ -18,14 +20,14 @@ use store_cut::Writing;
 use store_kinds::rules;
 
 // What an action stores: to the file of which kind, and what.
-#[derive(Drop)]
+#[derive(Clone, Copy)]
 pub enum Storage {
     To(usize, Writing),
     Nothing,
 }
 
 // What a cut answers: whether it is accepted, and how many stores the whole command has.
-#[derive(Drop)]
+#[derive(Clone, Copy)]
 pub struct CutAnswer {
     pub verdict: Verdict,
     pub stores: usize,

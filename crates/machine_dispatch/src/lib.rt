@@ -1,4 +1,6 @@
 // Steps 1 to 3 of the order of status words, and then the command.
+#![tactic(auto)]
+
 ghost use Rattle.std.specs.Prelude.{◌≡◌};
 ghost use Rattle.machine_dispatch.specs.Decide.{by_ins, by_own_ins, by_class};
 

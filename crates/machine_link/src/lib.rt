@@ -1,4 +1,6 @@
 // What a link of a chain comes to. CLA b5 marks every link of a chain but the last.
+#![tactic(auto)]
+
 pub mod parameters;
 
 ghost use Rattle.std.specs.Prelude.{◌≡◌};
@@ -10,7 +12,7 @@ use machine_apdu::{Frame, Header, status};
 
 // What becomes of a command that has a shape: it stops with a status word, it goes on as a link, or it is obeyed, with what the chain has before
 // its data.
-#[derive(Drop)]
+#[derive(Clone, Copy)]
 pub enum Course {
     Stops(usize),
     Extends,

@@ -72,7 +72,7 @@ pub fn search_record(image: &[u8], s: Session, f: Frame, data: &[u8]) -> Action
 }
 
 // The status word of a search, and the numbers of the records that it lists.
-#[derive(Drop)]
+#[derive(Clone, Copy)]
 pub struct Searched {
     pub status: usize,
     pub hits: Hits,

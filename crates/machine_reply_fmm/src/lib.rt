@@ -1,4 +1,6 @@
 // The data of FILE AND MEMORY MANAGEMENT: a file's three numbers, and the reply that lists those asked for, stored whole or not at all.
+#![tactic(auto)]
+
 ghost use Rattle.std.specs.Prelude.{◌≡◌, ◌+◌, ◌/◌, ◌≤◌, length};
 ghost use Rattle.base.specs.Bytes.{put};
 ghost use Rattle.objects_writer.specs.Writer.{put_end};

@@ -1,5 +1,7 @@
 // The data of READ RECORD: the records with some numbers, joined. What is asked for, by whom and of which file is for the layer above to
 // decide.
+#![tactic(auto)]
+
 ghost use Rattle.std.specs.Prelude.{◌≡◌, ◌+◌, ◌-◌, ◌≤◌, length, take, ltb};
 ghost use Rattle.std.proofs.lemmas.List.Edits.{sets};
 ghost use Rattle.base.specs.Choice.{if_else};

@@ -1,4 +1,6 @@
 // The data of SEARCH RECORD: the numbers of the records that match, and the reply that lists them, stored whole or not at all.
+#![tactic(auto)]
+
 ghost use Rattle.std.specs.Prelude.{◌≡◌, ◌+◌, ◌*◌, ◌≤◌, length, get_or, take, leb};
 ghost use Rattle.std.proofs.lemmas.List.Edits.{sets};
 ghost use Rattle.base.specs.Bytes.{put};
@@ -14,7 +16,7 @@ use store_records::body;
 const MOST: usize = 254;
 
 // The first n of the numbers.
-#[derive(Drop)]
+#[derive(Clone, Copy)]
 pub struct Hits {
     pub n: usize,
     pub numbers: [u8; 254],

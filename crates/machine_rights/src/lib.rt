@@ -1,5 +1,7 @@
 // The rights of a certificate chain: how three certificates are joined into cleared form, and what a session
 // with the rights may do. It knows nothing of files, commands or sessions.
+#![tactic(auto)]
+
 ghost use Rattle.std.specs.Prelude.{◌≡◌, true, false, ◌+◌, ◌-◌, ◌*◌, ◌≤◌, ◌<◌, ◌%◌, length, get_or};
 ghost use Rattle.base.specs.Choice.{if_else};
 ghost use Rattle.base.specs.Bytes.{part};
@@ -13,7 +15,7 @@ const VISA: usize = 2;
 const BIOMETRICS: usize = 3;
 
 // What one certificate holds, and what a chain of three comes to. [B1]
-#[derive(Drop)]
+#[derive(Clone, Copy)]
 pub struct Rights {
     pub flags: u8,
     pub travel: u8,
@@ -235,7 +237,7 @@ pub fn may_records(r: Rights, application: usize, certificates: bool, append: bo
 }
 
 // A bit of the 17 biometrics bytes: its byte, and the bit of that byte, both counted from 1.
-#[derive(Drop)]
+#[derive(Clone, Copy)]
 struct RightBit {
     byte: usize,
     bit: usize,

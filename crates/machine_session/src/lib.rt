@@ -1,5 +1,7 @@
 // A session: its rights, the application selected, the current place. Whether a call is accepted. Which file a command means, and
 // whether the session may do with it what the command asks, is in `resolve`.
+#![tactic(auto)]
+
 pub mod resolve;
 
 ghost use Rattle.std.specs.Prelude.{◌≡◌};
@@ -12,14 +14,14 @@ use store_kinds::rules::Rule;
 use store_records::body;
 
 // The current place: none, a file, or a file and record.
-#[derive(Drop)]
+#[derive(Clone, Copy)]
 pub enum Place {
     Nowhere,
     OnFile(usize),
     OnRecord(usize, usize),
 }
 
-#[derive(Drop)]
+#[derive(Clone, Copy)]
 pub struct Session {
     pub rights: Rights,
     pub application: usize,
@@ -27,7 +29,7 @@ pub struct Session {
 }
 
 // Why a call gets no status word.
-#[derive(Drop)]
+#[derive(Clone, Copy)]
 pub enum Refusal {
     ShortBuffer,
     BadImage,
@@ -35,21 +37,21 @@ pub enum Refusal {
     BadSession,
 }
 
-#[derive(Drop)]
+#[derive(Clone, Copy)]
 pub enum Verdict {
     Accepted,
     Refused(Refusal),
 }
 
 // The number of a record, where there is one.
-#[derive(Drop)]
+#[derive(Clone, Copy)]
 pub enum RecordNumber {
     Number(usize),
     NoNumber,
 }
 
 // How a command names a file: the current one, by its short id, by its id.
-#[derive(Drop)]
+#[derive(Clone, Copy)]
 pub enum Named {
     Current,
     Short(usize),
@@ -57,39 +59,39 @@ pub enum Named {
 }
 
 // What a command does with records.
-#[derive(Drop)]
+#[derive(Clone, Copy)]
 pub enum Access {
     Read,
     Append,
 }
 
 // The file that a command means, or the status word where it means none.
-#[derive(Drop)]
+#[derive(Clone, Copy)]
 pub enum Meant {
     NotMeant(usize),
     TheFile(File),
 }
 
 // What steps 7 to 9 answer: a status word, or the file that the command goes on with.
-#[derive(Drop)]
+#[derive(Clone, Copy)]
 pub enum ResolvedRecord {
     RecordStop(usize),
     RecordAt(Rule),
 }
 
-#[derive(Drop)]
+#[derive(Clone, Copy)]
 pub enum ResolvedTransparent {
     TransparentStop(usize),
     TransparentAt(Transparent),
 }
 
-#[derive(Drop)]
+#[derive(Clone, Copy)]
 pub enum ResolvedBiometrics {
     BiometricsStop(usize),
     BiometricsAt(u8),
 }
 
-#[derive(Drop)]
+#[derive(Clone, Copy)]
 pub enum ResolvedFile {
     FileStop(usize),
     FileAt(File),

@@ -1,4 +1,6 @@
 // A session as bytes, for callers in other languages: 20 bytes of rights, the application, the place, the file id, the record number.
+#![tactic(auto)]
+
 ghost use Rattle.std.specs.Prelude.{◌≡◌, ◌++◌, length};
 ghost use Rattle.base.specs.Bytes.{put_fits, put};
 ghost use Rattle.machine_session_bytes.specs.Layout.{place_bytes, session_bytes, place_in, unused_zero, is_session, session_in};

@@ -1,4 +1,6 @@
 // The match of SEARCH RECORD: a string anywhere in a record's window.
+#![tactic(auto)]
+
 ghost use Rattle.std.specs.Prelude.{◌≡◌, true, ◌+◌, ◌≤◌, ◌<◌, min, length, drop};
 ghost use Rattle.machine_window.specs.Window.{occurs_in, window_of, matches_in};
 ghost use Rattle.machine_window.specs.Loops.{Stand, Likely, Clear, PassedTo, Ran, Filled};

@@ -1,5 +1,7 @@
 // The machine for C and for what links like C. include/malquindo.h declares these functions. Every function takes any bytes; what it
 // writes must not overlap anything else that it is lent.
+#![tactic(auto)]
+
 ghost use Rattle.std.specs.Prelude.{◌≡◌, ◌≤◌, length};
 ghost use Rattle.machine_session.specs.Verdict.{refusal_number, verdict_number};
 ghost use Rattle.store_certificates.specs.Certificates.{located, certificate_refusal, which_body, certificate_stretch};

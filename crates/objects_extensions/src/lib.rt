@@ -1,6 +1,8 @@
 // The rights that certificate extensions give: a run of extensions for each of three certificates, and the 60 bytes that an opening takes.
 // A run is walked once. What it gives is put into the 20 bytes of its certificate. The first of these, the flags, tells which known
 // extensions were there already.
+#![tactic(auto)]
+
 ghost use Rattle.std.specs.Prelude.{◌≡◌, replicate};
 ghost use Rattle.base.specs.Bytes.{same_bytes, put as put_at};
 ghost use Rattle.objects_extensions.specs.Extensions.{identifier_of, size_of, flag_of};
@@ -12,7 +14,7 @@ use objects_reader::head::{Head, header};
 use objects_reader::reader::{clean, read_all};
 
 // The extensions that are known, by what their rights are for.
-#[derive(Drop)]
+#[derive(Clone, Copy)]
 pub enum Known {
     Travel,
     Visa,
@@ -20,21 +22,21 @@ pub enum Known {
 }
 
 // What is wrong with an extension: its form or the size of its rights; or it is a known one for the second time in its run.
-#[derive(Drop)]
+#[derive(Clone, Copy)]
 pub enum ExtensionFault {
     Malformed,
     Twice,
 }
 
 // What comes of a run of extensions: its rights, or the fault of the first that has one.
-#[derive(Drop)]
+#[derive(Clone, Copy)]
 pub enum RunRead {
     Whole,
     Faulty(ExtensionFault),
 }
 
 // What is answered for three runs and a buffer: what comes of the runs; or that the buffer is too short for the rights.
-#[derive(Drop)]
+#[derive(Clone, Copy)]
 pub enum RightsRead {
     Told(RunRead),
     ShortBuffer,

@@ -3,7 +3,7 @@ ghost use Rattle.std.specs.Prelude.{◌≡◌, ◌≤◌, length, drop};
 ghost use Rattle.objects_reader.specs.Head.{body_in, length_of, head_of, past_by};
 
 // What stands at the start of a part: an object of the wanted tag whose value is the len bytes from start on, or the fault.
-#[derive(Drop)]
+#[derive(Clone, Copy)]
 pub enum Head {
     Body(usize, usize),
     NoTag,

@@ -1,4 +1,6 @@
 // Data objects: reading nested ones.
+#![tactic(auto)]
+
 pub mod head;
 pub mod number;
 pub mod reader;

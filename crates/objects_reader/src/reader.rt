@@ -8,7 +8,7 @@ use super::head::{Head, header};
 use super::number::wide;
 
 // What is wrong with an object: another tag or none stands there, its length is none that fits, or it lies too deep. [D9]
-#[derive(Drop)]
+#[derive(Clone, Copy)]
 pub enum Fault {
     Clean,
     Tag,
@@ -18,7 +18,7 @@ pub enum Fault {
 
 // What stands first in a part: nothing more, a fault, a plain value, or a value that is objects again, with the row at which what
 // follows goes on; or nothing where a value may be absent.
-#[derive(Drop)]
+#[derive(Clone, Copy)]
 pub enum Step {
     Done,
     Bad(Fault),
@@ -28,7 +28,7 @@ pub enum Step {
 }
 
 // What a reading found: the first fault with its place, and the places of the values read so far. [D9]
-#[derive(Drop)]
+#[derive(Clone, Copy)]
 pub struct Reading {
     pub fault: Fault,
     pub at: usize,

@@ -3,7 +3,7 @@ ghost use Rattle.std.specs.Prelude.{◌≡◌};
 ghost use Rattle.objects_stamp.specs.Chars.{between, is_letter, is_digit, is_special, allows, allows_all};
 
 // Which bytes a field may have: letters; digits; letters, digits and special characters; any; the number of a record.
-#[derive(Drop)]
+#[derive(Clone, Copy)]
 pub enum Chars {
     Letters,
     Digits,

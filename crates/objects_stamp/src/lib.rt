@@ -1,6 +1,8 @@
 // What a stamp says (Table 11 of the ICAO report): the places of its fields, or the first thing that is wrong with it. The reader of data
 // objects goes along the tags and lengths and stops at the first that is wrong. It notes a field's place only where all before it is
 // right, so a wrong content at a noted place stands before the reader's own fault, and no places are compared.
+#![tactic(auto)]
+
 pub mod chars;
 
 ghost use Rattle.std.specs.Prelude.{◌≡◌, ℕ, ◌<◌, ◌≤◌, length, get_or};
@@ -16,7 +18,7 @@ use chars::{Chars, allows_all};
 use objects_reader::reader::{Fault, Reading, read_all};
 
 // What is wrong with an object: it is missing, out of order or surplus; its length is none that fits; or its value is none allowed.
-#[derive(Drop)]
+#[derive(Clone, Copy)]
 pub enum Reason {
     WrongTag,
     WrongLength,
@@ -24,14 +26,14 @@ pub enum Reason {
 }
 
 // Nothing is wrong, or this is, with the object whose first byte stands (or should stand) at that place.
-#[derive(Drop)]
+#[derive(Clone, Copy)]
 pub enum Finding {
     Right,
     Wrong(Reason, usize),
 }
 
 // What is answered for a record and a list: what was found; or that the list is too short for the places of a stamp.
-#[derive(Drop)]
+#[derive(Clone, Copy)]
 pub enum StampRead {
     Told(Finding),
     ShortList,

@@ -1,4 +1,6 @@
 // The data fields that commands read: the rows of each, and what its values ask for.
+#![tactic(auto)]
+
 ghost use Rattle.std.specs.Prelude.{◌≡◌, ◌<◌, length};
 ghost use Rattle.objects_reader.specs.Places.{number_at, Within};
 ghost use Rattle.objects_templates.specs.Span.{span_at};
@@ -11,14 +13,14 @@ use objects_reader::number::number;
 use objects_reader::reader::{Reading, clean, read};
 
 // Where a value stands in the data: the len bytes from at on.
-#[derive(Drop)]
+#[derive(Clone, Copy)]
 pub struct Span {
     pub at: usize,
     pub len: usize,
 }
 
 // What a search asks for: the file reference, whether only the first match is wanted, the window, the string.
-#[derive(Drop)]
+#[derive(Clone, Copy)]
 pub struct Search {
     pub file: Span,
     pub one: bool,
@@ -27,34 +29,34 @@ pub struct Search {
     pub text: Span,
 }
 
-#[derive(Drop)]
+#[derive(Clone, Copy)]
 pub enum Query {
     Ask(Search),
     NoQuery,
 }
 
 // What an update writes, and from where on.
-#[derive(Drop)]
+#[derive(Clone, Copy)]
 pub struct Writes {
     pub offset: usize,
     pub bytes: Span,
 }
 
-#[derive(Drop)]
+#[derive(Clone, Copy)]
 pub enum Update {
     Writing(Writes),
     NoUpdate,
 }
 
 // The offset from which a READ BINARY with INS B1 reads.
-#[derive(Drop)]
+#[derive(Clone, Copy)]
 pub enum OffsetObject {
     Offset(usize),
     NoOffset,
 }
 
 // The file that FMM's data names.
-#[derive(Drop)]
+#[derive(Clone, Copy)]
 pub enum Reference {
     Refers(Span),
     NoReference,

@@ -1,5 +1,7 @@
 // What programs write with: answers to standard output as words, numbers in decimal and bytes in hexadecimal, and what is wrong to standard
 // error. A contract here says nothing of what is written, for the logic does not speak of it; the gate compares the answers.
+#![tactic(auto)]
+
 pub mod cases;
 pub mod result;
 pub mod words;

@@ -5,7 +5,7 @@ use crate::files;
 const NO_FILE: i32 = -1;
 
 // The open file, and how long the image is: FAILED where there is none.
-#[derive(Drop)]
+#[derive(Clone, Copy)]
 pub(crate) struct Loaded {
     pub(crate) fd: i32,
     pub(crate) len: usize,

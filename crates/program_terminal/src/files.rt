@@ -5,7 +5,7 @@ ghost use Rattle.std.specs.Prelude.{◌≤◌, length};
 pub(crate) const FAILED: usize = 1000000;
 
 // How many bytes one read brought; none at the end of the file and where the read failed.
-#[derive(Drop)]
+#[derive(Clone, Copy)]
 pub(crate) struct Got {
     pub(crate) n: usize,
     pub(crate) failed: bool,

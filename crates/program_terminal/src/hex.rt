@@ -6,7 +6,7 @@ pub(crate) const NONE: usize = 4294967296;
 
 // How many bytes were read, and the first digit of the next, 16 where there is none; good is false where something is no digit, or there
 // is no room.
-#[derive(Drop)]
+#[derive(Clone, Copy)]
 pub(crate) struct Read {
     pub(crate) n: usize,
     pub(crate) half: usize,
@@ -125,7 +125,7 @@ pub(crate) fn number(word: &[u8], hexadecimal: bool) -> usize {
 const LARGEST: usize = 18446744073709551615;
 
 // A number of 64 bits; good is false where a word is none.
-#[derive(Drop)]
+#[derive(Clone, Copy)]
 pub(crate) struct Amount {
     pub(crate) value: usize,
     pub(crate) good: bool,

@@ -6,7 +6,7 @@ use crate::{files, lines, status};
 const MOST_PIECES: u64 = 9223372036854775807;
 
 // How far the reading is: n bytes of a line, whether more of it was dropped, and the gravest that was met.
-#[derive(Drop)]
+#[derive(Clone, Copy)]
 struct Reading {
     n: usize,
     long: bool,

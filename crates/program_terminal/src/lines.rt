@@ -7,7 +7,7 @@ use crate::{
 use program_console::{result, words};
 
 // How lines are answered: the card's open file, and whether a command is written out before its answer.
-#[derive(Drop)]
+#[derive(Clone, Copy)]
 pub(crate) struct How {
     pub(crate) fd: i32,
     pub(crate) echo: bool,

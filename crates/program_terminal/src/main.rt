@@ -1,6 +1,8 @@
 // A card at the terminal. Commands in hexadecimal come from standard input, a line each, and each is answered on a line; other lines open a
 // session, ask what the card and the session are, cut a command, or move the card (help.rt). The argument is the file of a card image, which
 // holds each change before its command is answered; without it the card is the card to try.
+#![tactic(auto)]
+
 mod card;
 mod certificates;
 mod chain;

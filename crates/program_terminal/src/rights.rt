@@ -16,7 +16,7 @@ const FILE: usize = 3;
 const MOST: usize = 100;
 
 // Where the rights of a name stand in a certificate: the byte, the value of its lowest bit there, and the application's flag.
-#[derive(Drop)]
+#[derive(Clone, Copy)]
 struct Named {
     kind: usize,
     at: usize,

@@ -16,7 +16,7 @@ pub(crate) fn worse(a: usize, b: usize) -> usize {
 }
 
 // Whether a line could be read, and how it ended.
-#[derive(Drop)]
+#[derive(Clone, Copy)]
 pub(crate) struct Ended {
     pub(crate) good: bool,
     pub(crate) status: usize,

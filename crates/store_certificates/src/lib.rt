@@ -1,5 +1,7 @@
 // The certificate that a stamp names by its record number: of the card's body of travel certificates or, where that has no such record, of the
 // desk's own copy of such a body. It is returned as the very part of the body that it is. Every function takes any bytes.
+#![tactic(auto)]
+
 ghost use Rattle.std.specs.Prelude.{◌≡◌, true};
 ghost use Rattle.store_certificates.specs.Certificates.{certificates_ok, has_number, stretch_of, located, CertificatePart};
 
@@ -8,14 +10,14 @@ use store_records::body;
 use store_records::little::read16;
 
 // Where a certificate stands in its body: its first byte, and how many bytes it has.
-#[derive(Drop)]
+#[derive(Clone, Copy)]
 pub struct Stretch {
     pub start: usize,
     pub length: usize,
 }
 
 // In which of the two bodies the certificate is, and where; that it is in neither; or that one of the two is no body of travel certificates.
-#[derive(Drop)]
+#[derive(Clone, Copy)]
 pub enum Located {
     Card(Stretch),
     Desk(Stretch),

@@ -1,5 +1,7 @@
 // The single byte stores by which APPEND RECORD and ACTIVATE write a file's body, in order. `make_stores` makes the first k of them: a
 // command has all of them made, and a cut fewer. Nothing else writes a record or a state of a card in use; a move writes a new image.
+#![tactic(auto)]
+
 ghost use Rattle.std.specs.Prelude.{◌≡◌, true, [], ◌∷◌, ◌+◌, ◌-◌, ◌≤◌, ◌<◌, length, take};
 ghost use Rattle.store_records.specs.Body.{count, used, appendable};
 ghost use Rattle.store_cut.specs.declared.Writing.TheVariants.{Record, State};
@@ -10,7 +12,7 @@ use store_kinds::biometrics;
 use store_records::body;
 
 // What is written: a record behind the last one; or the state of a biometrics file, which becomes Activated.
-#[derive(Drop)]
+#[derive(Clone, Copy)]
 pub enum Writing {
     Record,
     State,

@@ -1,4 +1,6 @@
 // The files of a card: which file an id or a short id means, and what a transparent file holds.
+#![tactic(auto)]
+
 ghost use Rattle.std.specs.Prelude.{◌≡◌, true, ◌+◌, ◌≤◌, ◌<◌, length, take};
 ghost use Rattle.std.proofs.lemmas.List.Edits.{sets};
 ghost use Rattle.base.specs.Choice.{if_else};
@@ -11,7 +13,7 @@ use store_kinds::rules::{Key, Rule, Ruled};
 use store_kinds::{biometrics, rules};
 
 // A file of bytes: the two of the master file, and Biometrics n.
-#[derive(Drop)]
+#[derive(Clone, Copy)]
 pub enum Transparent {
     Info,
     Dir,
@@ -19,21 +21,21 @@ pub enum Transparent {
 }
 
 // A file of a card.
-#[derive(Drop)]
+#[derive(Clone, Copy)]
 pub enum File {
     RecordFile(Rule),
     TransparentFile(Transparent),
 }
 
 // What a look-up answers.
-#[derive(Drop)]
+#[derive(Clone, Copy)]
 pub enum Lookup {
     Known(File),
     NoFile,
 }
 
 // The application that an AID names.
-#[derive(Drop)]
+#[derive(Clone, Copy)]
 pub enum AidName {
     Application(usize),
     OtherAid,
@@ -197,7 +199,7 @@ fn put_entry(image: &[u8], application: usize, out: &mut [u8], at: usize) -> usi
 }
 
 // EF.DIR, in the first `len` of the bytes.
-#[derive(Drop)]
+#[derive(Clone, Copy)]
 pub struct Directory {
     pub bytes: [u8; 44],
     pub len: usize,

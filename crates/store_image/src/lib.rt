@@ -1,5 +1,7 @@
 // The card image: its sections, and each file's body in it. It knows nothing of commands, rights or sessions. Every
 // function takes any bytes; what is not well formed gets the answer that says so.
+#![tactic(auto)]
+
 ghost use Rattle.std.specs.Prelude.{◌≡◌, ◌+◌, ◌≤◌, ◌<◌, length};
 ghost use Rattle.store_kinds.specs.Biometrics.{updatable as takes_at};
 ghost use Rattle.store_kinds.specs.Rules.{application_of, there};
@@ -12,7 +14,7 @@ use store_kinds::rules::{BIOMETRICS, RULES, Rule, TRAVEL, application_of, kind_o
 use store_records::little::{read16, read32};
 
 // Where a section's body begins, and its length.
-#[derive(Drop)]
+#[derive(Clone, Copy)]
 pub enum Found {
     At(usize, usize),
     Missing,

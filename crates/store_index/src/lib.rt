@@ -1,5 +1,7 @@
 // An index of the records of a file: a lent list of places, one for each record, and a record by its place alone. Every function takes any
 // kind, any bytes, any list and any number. A list changes only where it is not refused.
+#![tactic(auto)]
+
 ghost use Rattle.std.specs.Prelude.{◌≡◌, ◌≤◌, ◌<◌, length, leb};
 ghost use Rattle.std.proofs.lemmas.List.Edits.{sets};
 ghost use Rattle.store_records.specs.Body.{next_place, place};
@@ -10,7 +12,7 @@ use store_records::body;
 use store_records::little::read16;
 
 // How many places a list holds, or how many bytes a record has; or that it is refused.
-#[derive(Drop)]
+#[derive(Clone, Copy)]
 pub enum Indexed {
     Counted(usize),
     Refused,

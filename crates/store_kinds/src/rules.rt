@@ -11,7 +11,7 @@ pub const VISA: usize = 2;
 
 pub const BIOMETRICS: usize = 3;
 
-#[derive(Drop)]
+#[derive(Clone, Copy)]
 pub struct Rule {
     pub kind: usize,
     pub application: usize,
@@ -21,7 +21,7 @@ pub struct Rule {
     pub most: usize,
 }
 
-#[derive(Drop)]
+#[derive(Clone, Copy)]
 pub enum Ruled {
     Is(Rule),
     Nothing,
@@ -80,7 +80,7 @@ pub const RULES: [Rule; 6] = [
 ];
 
 // What a rule is looked up by: a kind; an application with an id, or with a short id.
-#[derive(Drop)]
+#[derive(Clone, Copy)]
 pub enum Key {
     Kind(usize),
     Id(usize, usize),

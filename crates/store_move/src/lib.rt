@@ -1,4 +1,6 @@
 // The move of a card to other rooms: every file of the old image with all its content, in a new image that a list of rooms lays out.
+#![tactic(auto)]
+
 ghost use Rattle.std.specs.Prelude.{◌≡◌, true, ◌++◌, ◌+◌, ◌-◌, ◌≤◌, length, drop, leb};
 ghost use Rattle.store_image.specs.Image.{has, well_formed, body};
 ghost use Rattle.store_move_plan.specs.Rooms.{zeros, filled, blank};
@@ -14,7 +16,7 @@ use store_records::little::{read16, read32};
 
 // Why a move is refused: the old image is not well formed, the list lays out no image, a kind of the old image is not in the list, a room is
 // too small for its content, the target is too short for the new image.
-#[derive(Drop)]
+#[derive(Clone, Copy)]
 pub enum MoveRefusal {
     BadImage,
     BadList,
@@ -24,7 +26,7 @@ pub enum MoveRefusal {
 }
 
 // The length of the new image, or why there is none.
-#[derive(Drop)]
+#[derive(Clone, Copy)]
 pub enum Moved {
     Image(usize),
     Refused(MoveRefusal),

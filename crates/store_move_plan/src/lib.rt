@@ -1,5 +1,7 @@
 // A list of kinds with the lengths of their rooms, and whether it lays out a card. A row has the bytes of a section's head: 4-byte
 // little-endian length, 2-byte little-endian kind.
+#![tactic(auto)]
+
 ghost use Rattle.std.specs.Prelude.{◌≡◌, ◌<◌, length};
 ghost use Rattle.store_kinds.specs.Rules.{there, kind_ok};
 ghost use Rattle.store_image.specs.Image.{has, present, section_ok};
@@ -12,7 +14,7 @@ use store_kinds::rules::{
 use store_records::little::{read16, read32};
 
 // How long the image is that a list lays out.
-#[derive(Drop)]
+#[derive(Clone, Copy)]
 pub enum Laid {
     Total(usize),
     Unfit,

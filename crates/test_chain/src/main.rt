@@ -10,6 +10,8 @@
 //    them, as many as the length says in all, are the session from now on. There is no line.
 // 5, a look at the card: the line is its image.
 // 6, a look at the session: the line is all of its bytes.
+#![tactic(auto)]
+
 ghost use Rattle.std.specs.Prelude.{◌≡◌, length, replicate};
 
 use program_console::result;
@@ -19,7 +21,7 @@ use store_records::little::{read16, read32};
 const SESSION: usize = 1054;
 
 // What is left of the input behind a case, how long the card's image and the session are.
-#[derive(Drop)]
+#[derive(Clone, Copy)]
 struct Turn {
     left: usize,
     image: usize,

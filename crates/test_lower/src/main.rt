@@ -1,6 +1,8 @@
 // Runs outside cases through the lower layers, and answers each by a line. Standard input is the cases, one behind the other:
 // what to do (1 byte); five numbers, each as a byte that says how many bytes it has and these, little-endian: x, y, the length of a,
 // how many zeros are put behind a, the length of b; then a and b. A function works on a copy of a, so that what it writes is seen.
+#![tactic(auto)]
+
 mod biometrics;
 mod body;
 mod images;

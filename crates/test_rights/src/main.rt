@@ -1,6 +1,8 @@
 // Writes the page docs/TABLE23.md: which bit counts for each biometrics file, to be laid beside Table 23 of ICAO's report. The program does
 // not know where a right stands. It asks `may_biometrics`, as the machine does, with one bit set and no other, and tries every bit
 // for every number that a file could have. Bytes and bits count from 1, as in the table.
+#![tactic(auto)]
+
 ghost use Rattle.std.specs.Prelude.{◌≤◌};
 
 use machine_rights::Rights;

@@ -26,13 +26,15 @@
 // 11, a cut: how many stores are made (8 bytes, little-endian), the length of the command (2 bytes, little-endian), the command. The line: the
 //    result, a hash of the image. The card's image is from now on what the cut left; the session stays.
 // Of a session a line has the first 30 bytes (`-` where there are none) and a hash of all.
+#![tactic(auto)]
+
 ghost use Rattle.std.specs.Prelude.{◌≡◌, length, replicate};
 
 use program_console::result;
 use store_records::little::{read16, read32};
 
 // What is left of the input behind a case, how long the card's image and the session are.
-#[derive(Drop)]
+#[derive(Clone, Copy)]
 struct Turn {
     left: usize,
     image: usize,

@@ -6,11 +6,13 @@
 //    answered, the chain that it left, and a response buffer of 2,050 bytes. The line: the refusal's number, the response (`-`
 //    where there is none).
 // 3, a look: the line is the card's image.
+#![tactic(auto)]
+
 use machine_session::{Refusal, Session, Verdict};
 use store_records::little::read32;
 
 // What is left of the input behind a case, how long the card's image is, the session.
-#[derive(Drop)]
+#[derive(Clone, Copy)]
 struct Turn {
     left: usize,
     len: usize,
