@@ -13,7 +13,7 @@ pub returns-then-not-alike : goal.returns-then-not-alike
 returns-then-not-alike c = c.loop-i.invariant
 
 pub loop-i-preserved : goal.loop-i-preserved
-loop-i-preserved c = (omega arith, omega arith, c.alike.ensures (not-false _ c.if-not-alike.false))
+loop-i-preserved c = (omega arith, omega arith, c.alike.ensures (not-false _ c.if-not-alike.false-raw))
 
 pub returns : goal.returns
 returns c = c.loop-i.invariant

@@ -3,4 +3,4 @@ use Rattle.machine_window.proofs.Clearing.{two_tell}
 use Rattle.machine_window.proofs.likely.Goals as goal
 
 pub returns : goal.returns
-returns c = let s = c.before.before.before.before in two_tell _ _ _ _ s.requires.1
+returns c = two_tell _ _ _ _ c.requires.1

@@ -13,7 +13,7 @@ returns-then-not-clear c = let i = c.loop-p.invariant in (i.0, i.2)
 pub loop-p-preserved : goal.loop-p-preserved
 loop-p-preserved c =
     let i = c.loop-p.invariant in
-    (omega arith, omega arith, clear_join i.2 (c.clear.ensures (not-false _ c.if-not-clear.false)))
+    (omega arith, omega arith, clear_join i.2 (c.clear.ensures (not-false _ c.if-not-clear.false-raw)))
 
 pub returns : goal.returns
 returns c = let i = c.loop-p.invariant in (i.0, i.2)

@@ -14,4 +14,4 @@ pub overflow_sub-result : goal.overflow_sub-result
 overflow_sub-result c = omega (arith, leading_le 64 c.args.n)
 
 pub returns : goal.returns
-returns c = let s = c.before in omega (arith, bytes_of_leading s.args.n (pos_of_ne-zero c.if-n-eq0.false) s.ranges.n.fits)
+returns c = omega (arith, bytes_of_leading c.args.n (pos_of_ne-zero c.if-n-eq0.false) c.ranges.n.fits)

@@ -12,21 +12,21 @@ returns-then-len-gt65535 c = put_same _ _ (sym (head_bytes-length-refused _ _ c.
 
 pub returns-then-len-lt128 : goal.returns-then-len-lt128
 returns-then-len-lt128 c =
-    let a = c.before.before.before.before.before.before.before.before.before.before.before.args in
+    let a = c.args in
     put_same _ _
-    (head_bytes-part a.tag a.len (omega arith) (omega arith) _ _ c.before.before.before.before.before.before.before.unwritten.ensures.0 (length_bytes-short _ (omega arith)))
+    (head_bytes-part a.tag a.len (omega arith) (omega arith) _ _ c.unwritten-k.ensures.0 (length_bytes-short _ (omega arith)))
     c.store.ensures
 
 pub returns-then-len-lt256 : goal.returns-then-len-lt256
 returns-then-len-lt256 c =
-    let a = c.before.before.before.before.before.before.before.before.before.before.before.before.args in
+    let a = c.args in
     put_same _ _
-    (head_bytes-part a.tag a.len (omega arith) (omega arith) _ _ c.before.before.before.before.before.before.before.before.unwritten.ensures.0 (length_bytes-one _ (omega arith) (omega arith)))
+    (head_bytes-part a.tag a.len (omega arith) (omega arith) _ _ c.unwritten-k.ensures.0 (length_bytes-one _ (omega arith) (omega arith)))
     c.store-then-len-lt256.ensures
 
 pub returns : goal.returns
 returns c =
-    let a = c.before.before.before.before.before.before.before.before.before.before.before.before.args in
+    let a = c.args in
     put_same _ _
-    (head_bytes-part a.tag a.len (omega arith) (omega arith) _ _ c.before.before.before.before.before.before.before.before.unwritten.ensures.0 (length_bytes_two _ (omega arith)))
+    (head_bytes-part a.tag a.len (omega arith) (omega arith) _ _ c.unwritten-k.ensures.0 (length_bytes_two _ (omega arith)))
     c.store-2.ensures

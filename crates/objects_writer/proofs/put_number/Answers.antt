@@ -7,13 +7,13 @@ use Rattle.objects_writer.proofs.Writings.{put-number-refused, put-number_accept
 use Rattle.objects_writer.proofs.put_number.Goals as goal
 
 pub returns-then-out-at : goal.returns-then-out-at
-returns-then-out-at c = let s = c.before.before.before in put-number-refused _ _ _ _ _ s.ranges.tag.fits c.fewest-k.ensures (omega arith)
+returns-then-out-at c = put-number-refused _ _ _ _ _ c.ranges.tag.fits c.fewest-k.ensures (omega arith)
 
 pub overflow_add-k : goal.overflow_add-k
 overflow_add-k c = omega (arith, c.fewest-k.ensures, bytes_of_most c.args.n)
 
 pub returns-then-out-at-2 : goal.returns-then-out-at-2
-returns-then-out-at-2 c = let s = c.before.before.before.before in put-number-refused _ _ _ _ _ s.ranges.tag.fits c.fewest-k.ensures (omega arith)
+returns-then-out-at-2 c = put-number-refused _ _ _ _ _ c.ranges.tag.fits c.fewest-k.ensures (omega arith)
 
 pub overflow_cast-out : goal.overflow_cast-out
 overflow_cast-out c = omega (arith, c.fewest-k.ensures, bytes_of_most c.args.n)
@@ -25,9 +25,8 @@ pub put_digits-requires : goal.put_digits-requires
 put_digits-requires c = simp length-set (omega arith)
 
 pub shape_of-out : goal.shape_of-out
-shape_of-out c = c.put_digits.auto.0 ∙ simp length-set
+shape_of-out c = c.put_digits.auto.out ∙ simp length-set
 
 pub returns : goal.returns
 returns c =
-    let s = c.before.before.before.before.before.before.before.before in
-    put-number_accepted _ _ _ _ _ s.ranges.tag.fits c.fewest-k.ensures _ (omega arith) c.put_digits.ensures
+    put-number_accepted _ _ _ _ _ c.ranges.tag.fits c.fewest-k.ensures _ (omega arith) c.put_digits.ensures

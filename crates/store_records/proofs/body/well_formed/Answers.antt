@@ -8,15 +8,16 @@ use Rattle.base.proofs.Cases.{flag_refused, flag_accepted}
 use Rattle.store_records.specs.Body.{next_place, ok_at, ok_to}
 use Rattle.store_records.proofs.Bodies.{place-zero, place-turn, ok_to-zero, ok_to-suc, ok_at_facts, body_ok-short, body_ok_many, body_ok-refused, body_ok_accepted}
 use Rattle.store_records.proofs.body.well_formed.Goals as goal
+use Rattle.store_records.proofs.body.well_formed.Goals.{Else-not-record_ok}
 
 -- the record at `at` is right, and so within the body
-abbrev B : tie.Else3 invariant-loop decreases-loop → List ℕ
-B c = c.before.before.before.before.before.before.before.before.args.body.now
+abbrev B : Else-not-record_ok → List ℕ
+B c = c.args.body.now
 
-was-ok : (c : tie.Else3 invariant-loop decreases-loop) → ok_at c.before.before.before.before.before.before.before.before.args.longest (B c) c.before.before.before.loop.at ≡ true
-was-ok c = flag_accepted c.before.record-ok.ensures c.if3.false
+was-ok : (c : Else-not-record_ok) → ok_at c.args.longest (B c) c.loop-i.at ≡ true
+was-ok c = flag_accepted c.record_ok.ensures c.if-not-record_ok.false-raw
 
-whole : (c : tie.Else3 invariant-loop decreases-loop) → next_place (B c) c.before.before.before.loop.at ≤ length (B c)
+whole : (c : Else-not-record_ok) → next_place (B c) c.loop-i.at ≤ length (B c)
 whole c = (ok_at_facts _ _ _ (was-ok c)).whole
 
 pub returns-then-body-lt2 : goal.returns-then-body-lt2
@@ -30,23 +31,22 @@ loop-i-init c = (sym (place-zero _), omega arith, omega arith, ok_to-zero _ _)
 
 pub returns-then-not-record_ok : goal.returns-then-not-record_ok
 returns-then-not-record_ok c =
-    let at-loop = c.before.before.before in
-    sym (body_ok-refused _ _ _ at-loop.loop.i (omega arith)
-    (ap (ok_at _ _) (sym at-loop.loop.invariant.0) ∙ flag_refused c.record_ok.ensures c.if-not-record_ok.true))
+    sym (body_ok-refused _ _ _ c.loop-i.i (omega arith)
+    (ap (ok_at _ _) (sym c.loop-i.invariant.0) ∙ flag_refused c.record_ok.ensures c.if-not-record_ok.true-raw))
 
 pub overflow_add-at : goal.overflow_add-at
-overflow_add-at c = omega (arith, whole c)
+overflow_add-at c = omega (arith, whole (goal.at.overflow_add-at c).Else-not-record_ok)
 
 pub overflow_add-at-in-loop-i : goal.overflow_add-at-in-loop-i
-overflow_add-at-in-loop-i c = omega (arith, whole c.before)
+overflow_add-at-in-loop-i c = omega (arith, whole (goal.at.overflow_add-at-in-loop-i c).Else-not-record_ok)
 
 pub loop-i-preserved : goal.loop-i-preserved
 loop-i-preserved c =
     let inv = c.loop-i.invariant in (
       place-turn _ _ _ _ inv.0 c.read16.ensures.0,
       omega arith,
-      omega (arith, whole c.before),
-      ok_to-suc _ _ _ inv.3 (ap (ok_at _ _) (sym inv.0) ∙ was-ok c.before),
+      omega (arith, whole (goal.at.loop-i-preserved c).Else-not-record_ok),
+      ok_to-suc _ _ _ inv.3 (ap (ok_at _ _) (sym inv.0) ∙ was-ok (goal.at.loop-i-preserved c).Else-not-record_ok),
     )
 
 pub returns : goal.returns
