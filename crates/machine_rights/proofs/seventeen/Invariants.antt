@@ -1,0 +1,13 @@
+-- `seventeen` meets its contract. Invariant: the first i bytes of z are those of s from `at` on. A turn copies one more (`fills`), and 17 are
+-- all (`filled`). Measure: 17 - i.
+use Prim.Native.Nat.{ℕ, ◌+◌, ◌-◌, ◌≤◌}
+use mathlib.Core.Path.{◌≡◌}
+use lib.ListN.{length, get_or}
+use Rattle.machine_rights.proofs.Elements.{Filled}
+use Rattle.machine_rights.proofs.seventeen.Given as goal
+
+abbrev pub invariant-loop-i : goal.invariant-loop-i
+invariant-loop-i l = (length l.z ≡ 17) × (l.i ≤ 17) × Filled (λ (j : ℕ). get_or l.s (l.at + j) 0) l.z l.i
+
+abbrev pub decreases-loop-i : goal.decreases-loop-i
+decreases-loop-i l = 17 - l.i
