@@ -41,7 +41,7 @@ returns-in-162 c = simp (ne_eqb _ _ c.if-class-eq128.false, c.in-162.is)
 
 pub returns-in_default : goal.returns-in_default
 unfolding is_command
-returns-in_default c = let r = c.in_default.rest in
+returns-in_default c = let r = c.in_default.in_default-own.rest in
     simp (
       ne_eqb _ _ c.if-class-eq128.false,
       ne_eqb _ _ r.1,

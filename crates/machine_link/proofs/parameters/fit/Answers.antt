@@ -41,7 +41,7 @@ returns-in-94 c = simp c.in-94.is c.of_fmm.ensures
 
 pub returns-in_default : goal.returns-in_default
 unfolding parameters_fit
-returns-in_default c = let r = c.in_default.rest in
+returns-in_default c = let r = c.in_default.in_default-own.rest in
     simp (
       ne_eqb _ _ r.1,
       ne_eqb _ _ r.0.1,
