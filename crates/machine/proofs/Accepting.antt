@@ -171,13 +171,12 @@ module _ (img : List ℕ) (s : Session) (xs : List ℕ) (f : Frame) (own : List 
     frame_is : frame ≡ whole_frame (chain_in xs) f
     frame_is = λ i. record { header = f.header; from = f.from; lc = (ap length (obey_data e) ∙ whole_length) i; le = f.le; ne = f.ne }
 
-    pub obey_allowed : {x : Action} → x ≡ by_class img s frame d → AllBytes xs → AllBytes own → (well_formed img ≡ true) × (2050 ≤ n) × Allowed img d x
-    obey_allowed {x} ex bx bo =
-        let b : AllBytes d = subst AllBytes (sym (obey_data e)) (bytes-append _ own (subst AllBytes (sym (so_far_is xs)) (bytes-part xs 5 (le16 xs 0) bx)) bo) in (
-          r.well,
-          r.long,
-          subst (Allowed img d) (sym ex) (from_allowed img s frame d (by_class img s frame d) b (class-from img s frame d refl)),
-        )
+    pub obey_allowed : {x : Action} → x ≡ by_class img s frame d → AllBytes d → (well_formed img ≡ true) × (2050 ≤ n) × Allowed img d x
+    obey_allowed {x} ex b = (
+      r.well,
+      r.long,
+      subst (Allowed img d) (sym ex) (from_allowed img s frame d (by_class img s frame d) b (class-from img s frame d refl)),
+    )
 
     pub obey_done : {x : Action} (buf : List ℕ) {o : Outcome} → x ≡ by_class img s frame d → o ≡ done x img s d buf → o ≡ obeyed img s (chain_in xs) f own buf
     obey_done {x} buf ex eo =
