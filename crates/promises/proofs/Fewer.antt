@@ -37,7 +37,7 @@ use Rattle.machine_dispatch.proofs.Fewer.{decide_fewer}
 use Rattle.machine_answer.specs.Outcome.{Outcome, outcome, answered, word, says}
 use Rattle.machine.specs.Effects.{searched, done}
 use Rattle.machine.specs.Step.{verdict_on, step_by, step, chain_after_by, chain_after}
-use Rattle.promises.specs.FewerRights.{with_rights, outcome_with, only6982, Gets6982, Fewer-rights}
+use Rattle.promises.specs.FewerRights.{with_rights, outcome_with, only6982, Gets6982, FewerRights}
 use Rattle.promises.proofs.Answering.{accepted_room, step-verdict}
 use Rattle.promises.proofs.Keeping.{step_kept}
 
@@ -114,7 +114,7 @@ module _ (img : List ℕ) (s : Session) (few : Rights) (ch : Chain) (cmd buf : L
       go (inl e) = inl (ap (λ (x : Action). done x img t (data_of ch cmd) buf) e ∙ done-with img s few buf (decide img s ch cmd) (data_of ch cmd))
       go (inr e) = inr (ap (λ (x : Action). done x img t (data_of ch cmd) buf) e ∙ unfold done in word-told img t buf (l refl))
 
-pub fewer_rights : Fewer-rights
+pub fewer_rights : FewerRights
 unfolding step
 fewer_rights img s few ch cmd buf h k u =
     ⊎_elim

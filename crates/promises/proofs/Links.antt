@@ -42,7 +42,7 @@ use Rattle.machine_answer.specs.Outcome.{says}
 use Rattle.machine.specs.Effects.{done}
 use Rattle.machine.specs.Step.{verdict_on, step_by, step, chain_after_by, chain_after}
 use Rattle.promises.specs.Calls.{whole_by, whole_of}
-use Rattle.promises.specs.Links.{LinkPair, Takes, LinkAnswered, EachLinkAnswered, Goes_on, Between, after_sending, Link, after_links, pieces, IsLink, AllLinks, CutInto, LinksAsWhole}
+use Rattle.promises.specs.Links.{LinkPair, Takes, LinkAnswered, EachLinkAnswered, GoesOn, Between, after_sending, Link, after_links, pieces, IsLink, AllLinks, CutInto, LinksAsWhole}
 
 -- ---- CLA and INS of a link
 
@@ -216,7 +216,7 @@ course_goes img s ch f d buf Extends l few (joined t) n x = false-true (sym l âˆ
 course_goes img s ch f d buf Goes l few (gone t) n x =
     simp (going_on ch f t, le-leb (length (so_far ch) + f.lc) 1024 (going_few ch f few t))
 
-pub continues : Goes_on
+pub continues : GoesOn
 unfolding step step_by decide data_of whole_of
 continues img s ch cmd buf f e l x =
     ap (whole_by ch) e âˆ™ go (verdict_on img s ch (length buf)) x

@@ -5,13 +5,13 @@ use Rattle.promises.specs.Done.{AppendDone, UpdateDone, ActivateDone, ReadDone, 
 use Rattle.promises.specs.Binary.{BothReads, OddReaches}
 use Rattle.promises.specs.Linked.{CSees, CMalformed, CSaysNo, CGetsWord, CHolds, CNumberKept, CReadsHistory, CLeavesNoneOut, COpens, CMoves}
 use Rattle.promises.specs.Cuts.{CutStores, CutLeaves, AppendInOrder, ActivateInOrder, RoomUsed, CCuts}
-use Rattle.promises.specs.Links.{EachLinkAnswered, Goes_on, LinksAsWhole}
+use Rattle.promises.specs.Links.{EachLinkAnswered, GoesOn, LinksAsWhole}
 use Rattle.promises.specs.Bodies.{CFile, CFileStays}
 use Rattle.promises.specs.Certificates.{CCertificate, CCertificateKept}
 use Rattle.promises.specs.Index.{CIndexBuilds, CIndexExtends, CIndexReads, CIndexKept, CIndexRoom, CIndexReplies}
 use Rattle.promises.specs.Stamps.{CStampReads, CStampUnique, CStampLongest}
 use Rattle.promises.specs.Rights.{CRights, CRightsRead, CRightsRefused}
-use Rattle.promises.specs.FewerRights.{Fewer-rights, CFewerRights, LearnsNoMore, FewerShown, EachBitCounts}
+use Rattle.promises.specs.FewerRights.{FewerRights, CFewerRights, LearnsNoMore, FewerShown, EachBitCounts}
 use Rattle.promises.proofs.Keeping.{step_kept}
 use Rattle.promises.proofs.Opening.{opening-opened}
 use Rattle.store_move.proofs.Moves.{move_card_numbered}
@@ -183,8 +183,8 @@ c_cuts = calling.c_cuts
 pub link_answered : EachLinkAnswered
 link_answered = links.link_answered
 
-pub goes_on : Goes_on
-goes_on = links.goes_on
+pub goes_on : GoesOn
+goes_on = links.continues
 
 pub links_as_whole : LinksAsWhole
 links_as_whole = links.links_as_whole
@@ -237,7 +237,7 @@ c_rights-read = rights.c_rights-read
 pub c_rights-refused : CRightsRefused
 c_rights-refused = rights.c_rights-refused
 
-pub fewer_rights : Fewer-rights
+pub fewer_rights : FewerRights
 fewer_rights = fewer.fewer_rights
 
 pub c_fewer_rights : CFewerRights

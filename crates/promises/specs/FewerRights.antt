@@ -50,8 +50,8 @@ pub record Gets6982 (img : List ℕ) (s : Session) (few : Rights) (ch : Chain) (
   pub chain : chain_after img (with_rights s few) ch cmd (length buf) ≡ NoChain
 
 -- on any image, for any command after any chain, with any buffer [C29]
-abbrev pub Fewer-rights : Type 0
-Fewer-rights =
+abbrev pub FewerRights : Type 0
+FewerRights =
     (img : List ℕ) (s : Session) (few : Rights) (ch : Chain) (cmd buf : List ℕ)
     → session_fits img s ≡ true
     → session_fits img (with_rights s few) ≡ true

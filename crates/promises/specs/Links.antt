@@ -57,8 +57,8 @@ EachLinkAnswered =
     → LinkAnswered img s ch cmd f (step img s ch cmd buf) (chain_after img s ch cmd (length buf))
 
 -- a command that is no link and is answered 9000 or 6282 goes on with the chain, and the join has at most 1,024 bytes [C27]
-abbrev pub Goes_on : Type 0
-Goes_on =
+abbrev pub GoesOn : Type 0
+GoesOn =
     (img : List ℕ) (s : Session) (ch : Chain) (cmd buf : List ℕ) (f : Frame)
     → shape_of cmd ≡ Good f
     → is_link f.header ≡ false
