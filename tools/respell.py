@@ -33,7 +33,15 @@ IN_FILE = {
     "machine_apdu/proofs/Laws.antt": {"or_most": "or_most_lem"},
 }
 # a statement that would get the name of a record of the same crate
-BY_HAND = {"Link-answered": "EachLinkAnswered"}
+BY_HAND = {
+    "Link-answered": "EachLinkAnswered",
+    "Goes_on": "GoesOn",
+    "Fewer-rights": "FewerRights",
+    "without-bit": "lacks_bit",
+    "other-header": "another_header",
+    "by-short": "by_short_id",
+    "by-id": "by_file_id",
+}
 
 
 def files(*patterns):
@@ -61,7 +69,7 @@ def declared():
             if got and not got[1].startswith(tuple(f"Rattle.{c.name}." for c in (ROOT / "crates").iterdir())):
                 theirs.update(x.split(" as ")[-1].strip() for x in got[2].split(","))
             got = DECLARED.match(line)
-            if not got or local or (got[1] and not got[2]):
+            if not got or local or (got[1] and not got[2]) or got[3].startswith("-"):
                 continue
             name = got[3]
             if specs and "-" in name and name[:1].isupper():
@@ -91,7 +99,7 @@ def the_map():
     names = words | statements | theirs
     new = {n: camel(n) for n in statements}
     for n in words - statements:
-        new[n] = "-".join(map(snake, n.split("-")))
+        new[n] = "_".join(map(snake, n.split("-")))
     for n in lemmas - words - statements:
         new[n] = joined(n, names) if re.search(r"[\w']-[\w']", n) else snake(n)
     tokens = collections.Counter()

@@ -327,8 +327,8 @@ pub reference-short : (d : List ℕ) (q : Search) → read_search d ≡ Ask q �
 reference-short d q e b =
     let z = search_sound d q e b in
     let x = z.0 in
-    let l : length (part d q.file.at q.file.len) ≡ length x.file = ap length z.1.file-placed.is in
-    omega (arith, z.1.sized.file-size.1)
+    let l : length (part d q.file.at q.file.len) ≡ length x.file = ap length z.1.file_placed.is in
+    omega (arith, z.1.sized.file_size.1)
 
 pub from_allowed : (img : List ℕ) (s : Session) (f : Frame) (d : List ℕ) (x : Action) → AllBytes d → From img s f d x → Allowed img d x
 from_allowed img s f d (Status w) b h = tt

@@ -67,11 +67,11 @@ joined-ones : (a : Rights) → RightsOfBytes a → joined a all_ones ≡ a
 unfolding joined all_ones
 joined-ones a h =
     let b : joined_bytes a.biometrics (replicate 17 255) ≡ a.biometrics
-    = ap (λ (n : ℕ). joined_bytes a.biometrics (replicate n 255)) (sym h.seventeen) ∙ bytes-ones a.biometrics h.biometrics-bytes in
+    = ap (λ (n : ℕ). joined_bytes a.biometrics (replicate n 255)) (sym h.seventeen) ∙ bytes-ones a.biometrics h.biometrics_bytes in
     λ i. record {
-      flags = byte-ones a.flags h.flags-byte i;
-      travel = byte-ones a.travel h.travel-byte i;
-      visa = byte-ones a.visa h.visa-byte i;
+      flags = byte-ones a.flags h.flags_byte i;
+      travel = byte-ones a.travel h.travel_byte i;
+      visa = byte-ones a.visa h.visa_byte i;
       biometrics = b i;
     }
 

@@ -10,10 +10,10 @@ use Rattle.machine_rights.specs.Chain.{certificate, joined, cleared, effective, 
 
 -- rights whose fields are bytes, 17 of them biometrics bytes [B1] [V4]
 pub record RightsOfBytes (r : Rights) : Type 0 where
-  pub flags-byte : r.flags < 256
-  pub travel-byte : r.travel < 256
-  pub visa-byte : r.visa < 256
-  pub biometrics-bytes : AllBytes r.biometrics
+  pub flags_byte : r.flags < 256
+  pub travel_byte : r.travel < 256
+  pub visa_byte : r.visa < 256
+  pub biometrics_bytes : AllBytes r.biometrics
   pub seventeen : length r.biometrics ≡ 17
 
 -- every bit is set, those without a meaning too [B13]

@@ -27,13 +27,13 @@ use Rattle.objects_extensions.proofs.Steps.{Gave, of_gave}
 module _ (f s t : List ℕ) where
   pub chain_complete : (a b c : List Extension) → RunsOf a b c f s t → runs_on f s t ≡ whole (certificate_data a ++ (certificate_data b ++ certificate_data c))
   unfolding runs_on
-  chain_complete a b c x = rw (run_complete a f x.is-first, run_complete b s x.is-second, run_complete c t x.is-third) refl
+  chain_complete a b c x = rw (run_complete a f x.is_first, run_complete b s x.is_second, run_complete c t x.is_third) refl
 
   pub chain_length : (a b c : List Extension) → RunsOf a b c f s t → length (certificate_data a ++ (certificate_data b ++ certificate_data c)) ≡ 60
   chain_length a b c x =
       let l = length-append (certificate_data a) (certificate_data b ++ certificate_data c) in
       let m = length-append (certificate_data b) (certificate_data c) in
-      omega (arith, certificate-length a f x.is-first, certificate-length b s x.is-second, certificate-length c t x.is-third)
+      omega (arith, certificate-length a f x.is_first, certificate-length b s x.is_second, certificate-length c t x.is_third)
 
   module _ (bf : AllBytes f) (bs : AllBytes s) (bt : AllBytes t) where
     pub chain_fault : (w : ExtensionFault) → ChainFault f s t w → (runs_on f s t).read ≡ Faulty w
@@ -47,7 +47,7 @@ module _ (f s t : List ℕ) where
         ⊎_elim
         (λ x. ⊎_elim
         (λ y. ⊎_elim
-        (λ z. inl (x.0, y.0, z.0, record { is-first = x.1; is-second = y.1; is-third = z.1 }))
+        (λ z. inl (x.0, y.0, z.0, record { is_first = x.1; is_second = y.1; is_third = z.1 }))
         (λ z. inr (z.0, in-third x.0 y.0 x.1 y.1 z.1))
         (run_or_fault t bt))
         (λ y. inr (y.0, in-second x.0 x.1 y.1))

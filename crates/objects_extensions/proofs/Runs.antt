@@ -205,7 +205,7 @@ unfolding run_on
 run_complete es s w =
     let q : s ≡ run_data es ++ [] = w.written ∙ sym (append-nil (run_data es)) in
     let l = ap length q in
-    let r = skip (length s) [] es [] filled_none w.fault-free (omega arith) in
+    let r = skip (length s) [] es [] filled_none w.fault_free (omega arith) in
     ap (run_in (length s) empty_certificate) q ∙ rw (← none-given) r.same ∙ run_end r.fuel (certificate_data es)
 
 -- and that has 20 bytes
@@ -215,7 +215,7 @@ filled_all p [] f o = rw append-nil f
 filled_all p (e ∷ es) f o = rw append_assoc at (filled_all (p ++ (e ∷ [])) es (filled_next p e f o.1 o.2) o.3)
 
 pub run-filled : (es : List Extension) (s : List ℕ) → RunOf es s → Filled es
-run-filled es s w = filled_all [] es filled_none w.fault-free
+run-filled es s w = filled_all [] es filled_none w.fault_free
 
 pub certificate-length : (es : List Extension) (s : List ℕ) → RunOf es s → length (certificate_data es) ≡ 20
 unfolding certificate_data
@@ -316,4 +316,4 @@ decide (suc k) p s b h =
 
 -- bytes are a run of extensions without a fault, or have one
 pub run_or_fault : (s : List ℕ) → AllBytes s → ((es : List Extension) × RunOf es s) ⊎ ((w : ExtensionFault) × RunFault s w)
-run_or_fault s b = ⊎_elim (λ x. inl (x.0, record { fault-free = x.1; written = x.2 })) (λ x. inr (x.0, of_behind s x.0 x.1)) (decide (length s) [] s b (omega arith))
+run_or_fault s b = ⊎_elim (λ x. inl (x.0, record { fault_free = x.1; written = x.2 })) (λ x. inr (x.0, of_behind s x.0 x.1)) (decide (length s) [] s b (omega arith))

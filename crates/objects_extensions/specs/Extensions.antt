@@ -93,11 +93,11 @@ FaultFree before (e ∷ es) = Sayable e × RightSize e × FirstTime before e × 
 
 -- the bytes s are a run of these extensions, and none of them has a fault [CE2] [CE6]
 pub record RunOf (es : List Extension) (s : List ℕ) : Type 0 where
-  pub fault-free : FaultFree [] es
+  pub fault_free : FaultFree [] es
   pub written : s ≡ run_data es
 
 -- three such runs [CE7]
 pub record RunsOf (a b c : List Extension) (first second third : List ℕ) : Type 0 where
-  pub is-first : RunOf a first
-  pub is-second : RunOf b second
-  pub is-third : RunOf c third
+  pub is_first : RunOf a first
+  pub is_second : RunOf b second
+  pub is_third : RunOf c third

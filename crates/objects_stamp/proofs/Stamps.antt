@@ -1,6 +1,6 @@
 -- What is right is the writing of a stamp that Table 11 allows, every such writing is right, and it settles the stamp; what is told of any
--- other record is the first thing that is wrong. Read before: specs/Stamp.antt, specs/Faults.antt. Exports `told_fault`, `stamp-sound`,
--- `stamp-complete`, `stamp_noted`, `stamp_unique`, `stamp_most`, `stamp_first`, `stamp_only`, `stamp_near`.
+-- other record is the first thing that is wrong. Read before: specs/Stamp.antt, specs/Faults.antt. Exports `told_fault`, `stamp_sound`,
+-- `stamp_complete`, `stamp_noted`, `stamp_unique`, `stamp_most`, `stamp_first`, `stamp_only`, `stamp_near`.
 use Prim.Native.Nat.{ℕ, zero, suc, ◌+◌, ◌≤◌, ◌<◌}
 use mathlib.Core.Path.{◌≡◌, refl, sym, ap, ◌∙◌}
 use mathlib.Core.List.{List, [], ◌∷◌, ◌++◌}
@@ -139,9 +139,9 @@ module _ (w : List ℕ) (v : Values stamp_form) (z : Sized stamp_form v) (e : w 
       }
 
 -- what is right is the writing of a stamp that Table 11 allows
-pub stamp-sound : (s : List ℕ) → AllBytes s → stamp_finding s ≡ Right → (x : Stamp) × Lawful x × (s ≡ stamp_data x)
+pub stamp_sound : (s : List ℕ) → AllBytes s → stamp_finding s ≡ Right → (x : Stamp) × Lawful x × (s ≡ stamp_data x)
 unfolding stamp_finding
-stamp-sound s b e =
+stamp_sound s b e =
     let q = read_all stamp_form s in
     let t = told-first (content_ok s) (empty s) stamp_form s small flat few ∙ e in
     let o = all_sound stamp_form proper few s b (tells-clean (content_ok s) (empty s) q 13 0 t) in
@@ -281,9 +281,9 @@ module _ (x : Stamp) (a : Lawful x) where
   short = let e = ap length (encoded x) in let l = stamp_most in omega arith
 
   -- nothing is wrong with the writing of a stamp that Table 11 allows
-  pub stamp-complete : stamp_finding (stamp_data x) ≡ Right
+  pub stamp_complete : stamp_finding (stamp_data x) ≡ Right
   unfolding stamp_finding
-  stamp-complete =
+  stamp_complete =
       let s = stamp_data x in
       let q = read_all stamp_form s in
       let n : Noted s q (fields_of x) = rw (encoded x, leaves_are x) at (all_complete stamp_form proper few flat (values x) sized (short_sayable stamp_form (values x) short)) in

@@ -23,7 +23,7 @@ use Rattle.objects_stamp.specs.Stamp.{Stamp, Lawful, stamp_data, stamp_places}
 use Rattle.objects_stamp.specs.Rules.{stamp_form}
 use Rattle.objects_stamp.specs.FirstFault.{stamp_finding}
 use Rattle.objects_stamp.specs.Read.{read_stamp, places_written, read_stamp_into}
-use Rattle.objects_stamp.proofs.Stamps.{stamp-sound, stamp-complete, stamp_noted, stamp_most}
+use Rattle.objects_stamp.proofs.Stamps.{stamp_sound, stamp_complete, stamp_noted, stamp_most}
 
 module _ (starts lens : List ℕ) where
   pairs-length : (k : ℕ) → length (place_pairs starts lens k) ≡ 2 * k
@@ -53,7 +53,7 @@ module _ (s : List ℕ) {v : Finding} {q : Reading} (a : v ≡ stamp_finding s) 
   -- the places of a stamp are small
   pub small_places : AllBytes s → v ≡ Right → ((k : ℕ) → get_or q.starts k 0 < 4294967296) × ((k : ℕ) → get_or q.lens k 0 < 4294967296)
   small_places g e =
-      let x = stamp-sound s g (sym a ∙ e) in
+      let x = stamp_sound s g (sym a ∙ e) in
       let l = stamp_most x.0 x.1 in
       let m = ap length x.2 in
       let i = (all_within stamp_form s).each in
@@ -81,19 +81,19 @@ read_short s ps n = let t = lt-ltb (length ps) 26 n in (rw t refl, rw t refl)
 -- of the writing of a stamp the list gets the places of its fields
 pub into_stamp : (x : Stamp) → Lawful x → (ps : List ℕ) → 26 ≤ length ps → read_stamp_into (stamp_data x) ps ≡ sets ps 0 (stamp_places x)
 unfolding read_stamp_into
-into_stamp x a ps n = rw (le-ltb (length ps) 26 n, stamp-complete x a, stamp_noted x a) refl
+into_stamp x a ps n = rw (le-ltb (length ps) 26 n, stamp_complete x a, stamp_noted x a) refl
 
 pub places-length : (x : Stamp) → Lawful x → length (stamp_places x) ≡ 26
 places-length x a = rw (← stamp_noted x a) (pairs-length _ _ 13)
 
 -- the list keeps its size, and its entries behind the 26
 module _ (ps : List ℕ) where
-  written-kept : (f : Finding) (q : Reading) → (drop 26 (places_written f q ps) ≡ drop 26 ps) × (length (places_written f q ps) ≡ length ps)
-  written-kept Right q =
+  written_kept : (f : Finding) (q : Reading) → (drop 26 (places_written f q ps) ≡ drop 26 ps) × (length (places_written f q ps) ≡ length ps)
+  written_kept Right q =
       let v = place_pairs q.starts q.lens 13 in
       (drop-sets_past 26 ps 0 v (let l = pairs-length q.starts q.lens 13 in omega arith), length-sets ps 0 v)
-  written-kept (Wrong r at) q = (refl, refl)
+  written_kept (Wrong r at) q = (refl, refl)
 
   pub into_kept : (s : List ℕ) → (drop 26 (read_stamp_into s ps) ≡ drop 26 ps) × (length (read_stamp_into s ps) ≡ length ps)
   unfolding read_stamp_into
-  into_kept s = by_cases (ltb (length ps) 26) (λ e. rw e (refl, refl)) (λ e. rw e (written-kept (stamp_finding s) (read_all stamp_form s)))
+  into_kept s = by_cases (ltb (length ps) 26) (λ e. rw e (refl, refl)) (λ e. rw e (written_kept (stamp_finding s) (read_all stamp_form s)))

@@ -1,4 +1,4 @@
--- Table 11 as the reader goes by it: its rows as a form, and the contents of its thirteen fields. `stamp-sound` and `stamp-complete` prove
+-- Table 11 as the reader goes by it: its rows as a form, and the contents of its thirteen fields. `stamp_sound` and `stamp_complete` prove
 -- that these are the rules of Stamp.antt.
 use Rattle.std.specs.Prelude.{ℕ, List, [], ◌∷◌, Bool, true, ◌&&◌, get_or, eqb}
 use Rattle.base.specs.Choice.{if_else}

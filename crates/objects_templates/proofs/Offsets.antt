@@ -41,7 +41,7 @@ unfolding encode offset_data
 encoded offset = simp append-nil
 
 describe : (s offset : List ℕ) (r : Reading) → s ≡ offset_data offset → OffsetSize offset → Noted s r (offset ∷ []) → Offsets s (number_at s r 0) offset
-describe s offset r e z n = record { written = e; size = z; offset-is = number_at-noted s r 0 offset (n.each 0 (omega arith)) (omega arith) }
+describe s offset r e z n = record { written = e; size = z; offset_is = number_at-noted s r 0 offset (n.each 0 (omega arith)) (omega arith) }
 
 module _ (s : List ℕ) (n : ℕ) (e : read_offset_object s ≡ Offset n) where
   number_is : number_at s (read_by offset_form s) 0 ≡ n
@@ -62,7 +62,7 @@ module _ (s : List ℕ) (n : ℕ) (e : read_offset_object s ≡ Offset n) where
   offset_below b =
       let x = offset_sound b in
       let o = x.1 in
-      rw o.offset-is (big_below s x.0 [] (o.written ∙ sym (append-nil (tlv 0x54 x.0))) b o.size.1)
+      rw o.offset_is (big_below s x.0 [] (o.written ∙ sym (append-nil (tlv 0x54 x.0))) b o.size.1)
 
 -- an offset of one to three bytes
 module _ (offset : List ℕ) (z : OffsetSize offset) where

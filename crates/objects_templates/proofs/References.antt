@@ -32,7 +32,7 @@ unfolding encode reference_data
 encoded file = simp append-nil
 
 describe : (s file : List ℕ) (r : Reading) → s ≡ reference_data file → (1 ≤ length file) × (length file ≤ 2) → Noted s r (file ∷ []) → References s (span_at r 0) file
-describe s file r e z n = record { written = e; file-size = z; file-placed = n.each 0 (omega arith) }
+describe s file r e z n = record { written = e; file_size = z; file_placed = n.each 0 (omega arith) }
 
 module _ (s : List ℕ) (p : Span) (e : read_reference s ≡ Refers p) where
   place_is : span_at (read_by reference_form s) 0 ≡ p

@@ -53,11 +53,11 @@ unfolding leaves
 describe s x r e z n = record {
   written = e;
   sized = z;
-  file-placed = n.each 0 (omega arith);
-  one-is = ap (λ (m : ℕ). eqb m 0x30) (mode-noted s r x n);
-  offset-is = number_at-noted s r 2 x.offset (n.each 2 (omega arith)) (let k = z.offset-size in omega arith);
+  file_placed = n.each 0 (omega arith);
+  one_is = ap (λ (m : ℕ). eqb m 0x30) (mode-noted s r x n);
+  offset_is = number_at-noted s r 2 x.offset (n.each 2 (omega arith)) (let k = z.offset_size in omega arith);
   number_is = number_at-noted s r 3 x.number (n.each 3 (omega arith)) (let k = z.number_size in omega arith);
-  text-placed = n.each 4 (omega arith);
+  text_placed = n.each 4 (omega arith);
 }
 
 single : (l : List ℕ) → 1 ≤ length l → length l ≤ 1 → l ≡ get_or l 0 0 ∷ []
@@ -108,11 +108,11 @@ module _ (s : List ℕ) (q : Search) (e : read_search s ≡ Ask q) where
       let h = t.short in
       let n = subst (λ (u : Values search_form). Noted s (read_by search_form s) (leaves search_form u)) m t.noted in
       let w : SearchSized x = record {
-        file-size = (z.0.0, z.0.1);
-        mode-is = subst (λ (j : ℕ). (j ≡ 0) ⊎ (j ≡ 0x30)) (mode-noted s _ x n) (mode_of s (read_by search_form s) q asked_is);
-        offset-size = (z.0.2.0.2.0.0, z.0.2.0.2.0.1);
+        file_size = (z.0.0, z.0.1);
+        mode_is = subst (λ (j : ℕ). (j ≡ 0) ⊎ (j ≡ 0x30)) (mode-noted s _ x n) (mode_of s (read_by search_form s) q asked_is);
+        offset_size = (z.0.2.0.2.0.0, z.0.2.0.2.0.1);
         number_size = (z.0.2.0.2.0.2.0, z.0.2.0.2.0.2.1);
-        text-size = z.0.2.1.0.0.0;
+        text_size = z.0.2.1.0.0.0;
         whole = omega arith;
       } in
       (x, subst (λ (p : Search). Searches s p x) (search_is s (read_by search_form s) q asked_is) (describe s x _ k w n))
@@ -132,10 +132,10 @@ module _ (x : SearchFields) (z : SearchSized x) where
   sized : Sized search_form (values x)
   unfolding Sized
   sized =
-      let f = z.file-size in
-      let o = z.offset-size in
+      let f = z.file_size in
+      let o = z.offset_size in
       let n = z.number_size in
-      ((f.0, f.1, ((omega arith, omega arith, ((o.0, o.1, (n.0, n.1, tt)), tt)), (((z.text-size, text-fits, tt), tt), tt))), tt)
+      ((f.0, f.1, ((omega arith, omega arith, ((o.0, o.1, (n.0, n.1, tt)), tt)), (((z.text_size, text-fits, tt), tt), tt))), tt)
 
   -- every writing of fields of these sizes is taken
   pub search_complete : (q : Search) × (read_search (search_data x) ≡ Ask q) × Searches (search_data x) q x
@@ -146,7 +146,7 @@ module _ (x : SearchFields) (z : SearchSized x) where
       let n = read_by_noted search_form readable (values x) s (encoded x) z.whole sized in
       let m = mode-noted s r x n in (
         search_of s r,
-        read_as_complete search_form readable (values x) s (encoded x) z.whole (ask_of s) NoQuery sized ∙ asks s r (⊎_elim (λ e. inl (m ∙ e)) (λ e. inr (m ∙ e)) z.mode-is),
+        read_as_complete search_form readable (values x) s (encoded x) z.whole (ask_of s) NoQuery sized ∙ asks s r (⊎_elim (λ e. inl (m ∙ e)) (λ e. inr (m ∙ e)) z.mode_is),
         describe s x r refl z n,
       )
 

@@ -40,8 +40,8 @@ describe : (s offset bytes : List ℕ) (r : Reading) → s ≡ update_data offse
 describe s offset bytes r e z n = record {
   written = e;
   sized = z;
-  offset-is = number_at-noted s r 0 offset (n.each 0 (omega arith)) (let k = z.offset-size in omega arith);
-  bytes-placed = n.each 1 (omega arith);
+  offset_is = number_at-noted s r 0 offset (n.each 0 (omega arith)) (let k = z.offset_size in omega arith);
+  bytes_placed = n.each 1 (omega arith);
 }
 
 module _ (s : List ℕ) (w : Writes) (e : read_update s ≡ Writing w) where
@@ -67,7 +67,7 @@ module _ (s : List ℕ) (w : Writes) (e : read_update s ≡ Writing w) where
         offset,
         bytes,
         subst (λ (q : Writes). Updates s q offset bytes) writes-is
-            (describe s offset bytes _ k (record { offset-size = (z.0, z.1); whole = omega arith }) t.noted),
+            (describe s offset bytes _ k (record { offset_size = (z.0, z.1); whole = omega arith }) t.noted),
       )
 
   -- the offset answered has up to three bytes
@@ -76,7 +76,7 @@ module _ (s : List ℕ) (w : Writes) (e : read_update s ≡ Writing w) where
   update_below b =
       let x = update_sound b in
       let u = x.2 in
-      rw u.offset-is (big_below s x.0 (tlv 0x53 x.1) u.written b u.sized.offset-size.1)
+      rw u.offset_is (big_below s x.0 (tlv 0x53 x.1) u.written b u.sized.offset_size.1)
 
 -- an offset of one to three bytes, and bytes that fit
 module _ (offset bytes : List ℕ) (z : UpdateSized offset bytes) where
@@ -90,7 +90,7 @@ module _ (offset bytes : List ℕ) (z : UpdateSized offset bytes) where
   update_complete =
       let s = update_data offset bytes in
       let v : Values update_form = (offset, (bytes, tt)) in
-      let k : Sized update_form v = (z.offset-size.0, z.offset-size.1, (omega arith, fits, tt)) in (
+      let k : Sized update_form v = (z.offset_size.0, z.offset_size.1, (omega arith, fits, tt)) in (
         writes s (read_by update_form s),
         read_as_complete update_form readable v s (encoded offset bytes) z.whole (write_of s) NoUpdate k,
         describe s offset bytes _ refl z (read_by_noted update_form readable v s (encoded offset bytes) z.whole k),

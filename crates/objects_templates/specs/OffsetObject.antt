@@ -38,4 +38,4 @@ read_offset_object s = read_as offset_form s (offset_of s) NoOffset
 pub record Offsets (s : List ℕ) (n : ℕ) (offset : List ℕ) : Type 0 where
   pub written : s ≡ offset_data offset
   pub size : OffsetSize offset
-  pub offset-is : n ≡ big offset
+  pub offset_is : n ≡ big offset

@@ -28,5 +28,5 @@ read_reference s = read_as reference_form s named_of NoReference
 -- s is the writing of this file reference, and p says where it stands [Z2] [D11]
 pub record References (s : List ℕ) (p : Span) (file : List ℕ) : Type 0 where
   pub written : s ≡ reference_data file
-  pub file-size : (1 ≤ length file) × (length file ≤ 2)
-  pub file-placed : Placed s p.at p.len file
+  pub file_size : (1 ≤ length file) × (length file ≤ 2)
+  pub file_placed : Placed s p.at p.len file

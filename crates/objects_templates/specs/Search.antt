@@ -57,19 +57,19 @@ read_search s = read_as search_form s (ask_of s) NoQuery
 
 -- fields of the sizes that are allowed, in data of at most 65,535 bytes [Q3] [Q4] [Q5]
 pub record SearchSized (x : SearchFields) : Type 0 where
-  pub file-size : (1 ≤ length x.file) × (length x.file ≤ 2)
-  pub mode-is : (x.mode ≡ 0) ⊎ (x.mode ≡ 0x30)
-  pub offset-size : (1 ≤ length x.offset) × (length x.offset ≤ 2)
+  pub file_size : (1 ≤ length x.file) × (length x.file ≤ 2)
+  pub mode_is : (x.mode ≡ 0) ⊎ (x.mode ≡ 0x30)
+  pub offset_size : (1 ≤ length x.offset) × (length x.offset ≤ 2)
   pub number_size : (1 ≤ length x.number) × (length x.number ≤ 2)
-  pub text-size : 1 ≤ length x.text
+  pub text_size : 1 ≤ length x.text
   pub whole : length (search_data x) ≤ 65535
 
 -- s is the writing of these fields, and q says what they are [Q2] [D11]
 pub record Searches (s : List ℕ) (q : Search) (x : SearchFields) : Type 0 where
   pub written : s ≡ search_data x
   pub sized : SearchSized x
-  pub file-placed : Placed s q.file.at q.file.len x.file
-  pub one-is : q.one ≡ eqb x.mode 0x30
-  pub offset-is : q.offset ≡ big x.offset
+  pub file_placed : Placed s q.file.at q.file.len x.file
+  pub one_is : q.one ≡ eqb x.mode 0x30
+  pub offset_is : q.offset ≡ big x.offset
   pub number_is : q.number ≡ big x.number
-  pub text-placed : Placed s q.text.at q.text.len x.text
+  pub text_placed : Placed s q.text.at q.text.len x.text

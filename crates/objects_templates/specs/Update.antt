@@ -29,12 +29,12 @@ read_update s = read_as update_form s (write_of s) NoUpdate
 
 -- fields of the sizes that are allowed, in data of at most 65,535 bytes [W2]
 pub record UpdateSized (offset bytes : List ℕ) : Type 0 where
-  pub offset-size : OffsetSize offset
+  pub offset_size : OffsetSize offset
   pub whole : length (update_data offset bytes) ≤ 65535
 
 -- s is the writing of these fields, and w says what they are [W2] [D11]
 pub record Updates (s : List ℕ) (w : Writes) (offset bytes : List ℕ) : Type 0 where
   pub written : s ≡ update_data offset bytes
   pub sized : UpdateSized offset bytes
-  pub offset-is : w.offset ≡ big offset
-  pub bytes-placed : Placed s w.bytes.at w.bytes.len bytes
+  pub offset_is : w.offset ≡ big offset
+  pub bytes_placed : Placed s w.bytes.at w.bytes.len bytes

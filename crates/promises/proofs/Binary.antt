@@ -157,14 +157,14 @@ module _ (img : List ℕ) (s : Session) (ch : Chain) (cmd : List ℕ) (f : Frame
   unfolding p1_fits names_current
   even-named =
       by_cases (ltb f.header.p1 0x80)
-      (λ e. let h = ltb-true f.header.p1 0x80 e in let q = (read_named_lem f).0 h in let k = r.of-current h in
+      (λ e. let h = ltb-true f.header.p1 0x80 e in let q = (read_named_lem f).0 h in let k = r.of_current h in
       (rw q.0 k.0, k.1 ∙ sym q.1, simp e))
-      (λ e. let h = ltb-false f.header.p1 0x80 e in let q = (read_named_lem f).1 h in let k = r.of-short h in
+      (λ e. let h = ltb-false f.header.p1 0x80 e in let q = (read_named_lem f).1 h in let k = r.of_short h in
       (rw q.0 k.1, k.2 ∙ sym q.1, simp (e, eq-eqb _ _ k.0)))
 
   even-lengths : le_only f ≡ true
   unfolding le_only
-  even-lengths = all_of_accepted _ (eq-eqb f.lc 0 r.no-lc, (le-leb 1 f.le r.le, tt))
+  even-lengths = all_of_accepted _ (eq-eqb f.lc 0 r.no_lc, (le-leb 1 f.le r.le, tt))
 
   even-decided : decide img s ch cmd ≡ on_transparent (answer img s t) (read_binary_on img offset f.ne)
   unfolding read_binary in_order
@@ -177,12 +177,12 @@ module _ (img : List ℕ) (s : Session) (ch : Chain) (cmd : List ℕ) (f : Frame
   odd-named : is_meant s (id_or_current (p1p2 f)) (TransparentFile t) ≡ true
   odd-named =
       by_cases (eqb (p1p2 f) 0)
-      (λ e. let h = eqb-true (p1p2 f) 0 e in rw ((id-or-current (p1p2 f)).0 h) (r.of-current h))
-      (λ e. let h = eqb-false (p1p2 f) 0 e in rw ((id-or-current (p1p2 f)).1 h) (r.of-id h))
+      (λ e. let h = eqb-true (p1p2 f) 0 e in rw ((id-or-current (p1p2 f)).0 h) (r.of_current h))
+      (λ e. let h = eqb-false (p1p2 f) 0 e in rw ((id-or-current (p1p2 f)).1 h) (r.of_id h))
 
   -- the data says the offset
   odd-offset : read_offset_object (data_of ch cmd) ≡ Offset offset
-  odd-offset = let x = offset_complete r.value r.size in ap read_offset_object r.asks ∙ x.1 ∙ ap Offset (x.2.offset-is ∙ sym r.offset-is)
+  odd-offset = let x = offset_complete r.value r.size in ap read_offset_object r.asks ∙ x.1 ∙ ap Offset (x.2.offset_is ∙ sym r.offset_is)
 
   odd-lengths : lc_and_le f ≡ true
   unfolding lc_and_le

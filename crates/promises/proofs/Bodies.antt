@@ -56,8 +56,8 @@ module _ (img : List ℕ) (k r : ℕ) where
   unfolding file_place_in file_length_in
   file-none z f =
       record {
-        there-complete = λ o h. absurd (f o h);
-        there-sound = λ h. absurd (omega arith);
+        there_complete = λ o h. absurd (f o h);
+        there_sound = λ h. absurd (omega arith);
         stands = λ h. absurd (omega arith);
         within = omega arith;
         bytes = λ h. absurd (omega arith);
@@ -73,8 +73,8 @@ module _ (img : List ℕ) (k r : ℕ) where
       let p = file-place s n r (omega arith) q in
       let l = file-length s n r (omega arith) q in
       record {
-        there-complete = λ _ _. omega (arith, h.0);
-        there-sound = λ _. (o, has-found img k s n e);
+        there_complete = λ _ _. omega (arith, h.0);
+        there_sound = λ _. (o, has-found img k s n e);
         stands = λ _. e ∙ ap₂ (λ (x y : ℕ). At x y) (sym p) (sym l);
         within = omega arith;
         bytes = λ _. ap₂ (λ (x y : ℕ). part img x y) p l ∙ sym (found-body img k s n e);
@@ -95,7 +95,7 @@ none_told zero f = refl
 none_told (suc r) f = absurd (f (omega arith))
 
 file_lacking : (img : List ℕ) (k : ℕ) → has img k ≡ false → file_result img k ≡ 0
-file_lacking img k h = none_told (file_result img k) (λ g. false-true (sym h ∙ ((c_file img k).there-sound g).1))
+file_lacking img k h = none_told (file_result img k) (λ g. false-true (sym h ∙ ((c_file img k).there_sound g).1))
 
 -- ---- a command leaves every body where it is
 
@@ -142,7 +142,7 @@ module _ (img : List ℕ) (k : ℕ) (o : well_formed img ≡ true) where
   lent_body-is =
       let f = c_file img k in
       by_cases (has img k)
-      (λ h. f.bytes (f.there-complete o h))
+      (λ h. f.bytes (f.there_complete o h))
       (λ h. rw (file_lacking img k h) (sym (body_lacking img k h)))
 
   pub lent_records : records (lent_body img k) ≡ records_of img k

@@ -100,11 +100,11 @@ module _ (img ses cmd buf : List ℕ) (y : is_session_c ses ≡ true) where
 
     refusal-seen : refusal_in (called img ses cmd buf).result ≡ verdict_number (step img (session_in ses) (chain_of_c ses) cmd buf).answer.verdict
     unfolding refusal_in
-    refusal-seen = omega (arith, whole.sum, whole.length-small, whole.status-small)
+    refusal-seen = omega (arith, whole.sum, whole.length_small, whole.status_small)
 
     length_seen : length_in (called img ses cmd buf).result ≡ (step img (session_in ses) (chain_of_c ses) cmd buf).answer.length
     unfolding length_in
-    length_seen = omega (arith, whole.sum, whole.length-small, whole.status-small)
+    length_seen = omega (arith, whole.sum, whole.length_small, whole.status_small)
 
 -- what a caller sees is known by its parts
 seen-is : (c : Called) (o : Outcome) → verdict_by (refusal_in c.result) ≡ o.answer.verdict → length_in c.result ≡ o.answer.length → status_in c.result ≡ o.answer.status
@@ -179,11 +179,11 @@ module _ (img ses cmd buf : List ℕ) (bs : AllBytes ses) (b : AllBytes cmd) (y 
       record {
         kept = subst (λ (u : Outcome). Kept img s ch buf u (chain_of_c new)) (sym (c_sees img ses cmd buf bs b y))
             (subst (Kept img s ch buf o) (sym (session-bytes img ses cmd buf bs b y).chain) (step_kept img s ch cmd buf));
-        session-kept = λ n. ap (take 25) left.whole ∙ take_at left.front (chain_left img ses cmd (length buf)) 25 left.front_long ∙ front-stays n;
-        refused-kept = refused-stay;
-        no-chain-kept = λ e n. all_stay n (back_none img ses cmd buf y e (λ z. n (status-seen img ses cmd buf y ∙ z)));
-        session-rest-kept = rest-stays;
-        session-size-kept = size-stays;
+        session_kept = λ n. ap (take 25) left.whole ∙ take_at left.front (chain_left img ses cmd (length buf)) 25 left.front_long ∙ front-stays n;
+        refused_kept = refused-stay;
+        no_chain_kept = λ e n. all_stay n (back_none img ses cmd buf y e (λ z. n (status-seen img ses cmd buf y ∙ z)));
+        session_rest_kept = rest-stays;
+        session_size_kept = size-stays;
       }
 
 -- 1, 2 and 4 are numbers of a command's refusals
@@ -207,12 +207,12 @@ malformed-kept img ses buf =
     let e : verdict_by (refusal_in (result_of v 0 0)) ≡ v = ap verdict_by r.0 ∙ verdict_back v in
     let m = number-refused img (length buf) in
     record {
-      image-kept = λ _. refl;
-      session-kept = λ _. refl;
-      chain-dropped = λ z. absurd (some_number (verdict_number v) m (sym (ap verdict_number e) ∙ z));
-      chain-kept = λ z _. z;
-      rest-kept = refl;
-      size-kept = refl;
+      image_kept = λ _. refl;
+      session_kept = λ _. refl;
+      chain_dropped = λ z. absurd (some_number (verdict_number v) m (sym (ap verdict_number e) ∙ z));
+      chain_kept = λ z _. z;
+      rest_kept = refl;
+      size_kept = refl;
       number = subst (λ (x : Verdict). Memᴰ (verdict_number x) (0 ∷ 1 ∷ 2 ∷ 4 ∷ [])) (sym e) (among_numbers _ m);
       refused = λ _. (r.1, r.2, refl, refl, refl, refl);
     }
@@ -224,11 +224,11 @@ malformed-says_no img ses cmd buf n =
     (unfold malformed in
     record {
       kept = malformed-kept img ses buf;
-      session-kept = λ _. refl;
-      refused-kept = λ _. refl;
-      no-chain-kept = λ _ _. refl;
-      session-rest-kept = refl;
-      session-size-kept = refl;
+      session_kept = λ _. refl;
+      refused_kept = λ _. refl;
+      no_chain_kept = λ _ _. refl;
+      session_rest_kept = refl;
+      session_size_kept = refl;
     })
 
 pub c_says_no : CSaysNo

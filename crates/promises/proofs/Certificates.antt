@@ -95,41 +95,41 @@ module _ (card desk : List ℕ) (n : ℕ) where
   unfolding certificate_result
   found-card s t =
       let q = t.2 in
-      let r = tells (certificate_result (Card s)) 0 1 s.start s.length (omega arith) q.start_small q.length-small refl in
+      let r = tells (certificate_result (Card s)) 0 1 s.start s.length (omega arith) q.start_small q.length_small refl in
       let h = has-is_number card n t.1 in
       record {
-        refused-complete = λ f. false-true (sym f ∙ both_ok t.0);
-        refused-sound = λ g. absurd (omega (arith, r.refusal));
-        which-known = rw r.which (Memᴰ.tail (Memᴰ.head refl));
-        card-complete = λ _ _. r.which;
-        card-sound = λ _. stands-c card n s _ 0 1 q t.1 r;
-        desk-complete = λ _ no _. absurd (no h);
-        desk-sound = λ g. absurd (omega (arith, r.which));
-        missing-complete = λ _ no _. absurd (no h);
-        missing-sound = λ z. absurd (omega (arith, r.which, zero_which _ z));
-        zero-missing = λ _ z. absurd (omega (arith, h.0));
-        ones-missing = λ _ z. absurd (omega (arith, is_number-last card n t.0.0 h));
+        refused_complete = λ f. false-true (sym f ∙ both_ok t.0);
+        refused_sound = λ g. absurd (omega (arith, r.refusal));
+        which_known = rw r.which (Memᴰ.tail (Memᴰ.head refl));
+        card_complete = λ _ _. r.which;
+        card_sound = λ _. stands-c card n s _ 0 1 q t.1 r;
+        desk_complete = λ _ no _. absurd (no h);
+        desk_sound = λ g. absurd (omega (arith, r.which));
+        missing_complete = λ _ no _. absurd (no h);
+        missing_sound = λ z. absurd (omega (arith, r.which, zero_which _ z));
+        zero_missing = λ _ z. absurd (omega (arith, h.0));
+        ones_missing = λ _ z. absurd (omega (arith, is_number-last card n t.0.0 h));
       }
 
   found-desk : (s : Stretch) → Told card desk n (Desk s) → CertificateC card desk n (certificate_result (Desk s))
   unfolding certificate_result
   found-desk s t =
       let q = t.3 in
-      let r = tells (certificate_result (Desk s)) 0 2 s.start s.length (omega arith) q.start_small q.length-small refl in
+      let r = tells (certificate_result (Desk s)) 0 2 s.start s.length (omega arith) q.start_small q.length_small refl in
       let h = has-is_number desk n t.2 in
       let none = is_number-none card n t.1 in
       record {
-        refused-complete = λ f. false-true (sym f ∙ both_ok t.0);
-        refused-sound = λ g. absurd (omega (arith, r.refusal));
-        which-known = rw r.which (Memᴰ.tail (Memᴰ.tail (Memᴰ.head refl)));
-        card-complete = λ _ g. absurd (none g);
-        card-sound = λ g. absurd (omega (arith, r.which));
-        desk-complete = λ _ _ _. r.which;
-        desk-sound = λ _. (none, stands-c desk n s _ 0 2 q t.2 r);
-        missing-complete = λ _ _ no. absurd (no h);
-        missing-sound = λ z. absurd (omega (arith, r.which, zero_which _ z));
-        zero-missing = λ _ z. absurd (omega (arith, h.0));
-        ones-missing = λ _ z. absurd (omega (arith, is_number-last desk n t.0.1 h));
+        refused_complete = λ f. false-true (sym f ∙ both_ok t.0);
+        refused_sound = λ g. absurd (omega (arith, r.refusal));
+        which_known = rw r.which (Memᴰ.tail (Memᴰ.tail (Memᴰ.head refl)));
+        card_complete = λ _ g. absurd (none g);
+        card_sound = λ g. absurd (omega (arith, r.which));
+        desk_complete = λ _ _ _. r.which;
+        desk_sound = λ _. (none, stands-c desk n s _ 0 2 q t.2 r);
+        missing_complete = λ _ _ no. absurd (no h);
+        missing_sound = λ z. absurd (omega (arith, r.which, zero_which _ z));
+        zero_missing = λ _ z. absurd (omega (arith, h.0));
+        ones_missing = λ _ z. absurd (omega (arith, is_number-last desk n t.0.1 h));
       }
 
   found_none : Told card desk n NotThere → CertificateC card desk n (certificate_result NotThere)
@@ -138,17 +138,17 @@ module _ (card desk : List ℕ) (n : ℕ) where
       let r = tells (certificate_result NotThere) 0 0 0 0 (omega arith) (omega arith) (omega arith) refl in
       let none = is_number-none card n t.1 in
       record {
-        refused-complete = λ f. false-true (sym f ∙ both_ok t.0);
-        refused-sound = λ g. absurd (omega (arith, r.refusal));
-        which-known = rw r.which (Memᴰ.head refl);
-        card-complete = λ _ g. absurd (none g);
-        card-sound = λ g. absurd (omega (arith, r.which));
-        desk-complete = λ _ _ g. absurd (is_number-none desk n t.2 g);
-        desk-sound = λ g. absurd (omega (arith, r.which));
-        missing-complete = λ _ _ _. refl;
-        missing-sound = λ _. (none, is_number-none desk n t.2);
-        zero-missing = λ _ _. refl;
-        ones-missing = λ _ _. refl;
+        refused_complete = λ f. false-true (sym f ∙ both_ok t.0);
+        refused_sound = λ g. absurd (omega (arith, r.refusal));
+        which_known = rw r.which (Memᴰ.head refl);
+        card_complete = λ _ g. absurd (none g);
+        card_sound = λ g. absurd (omega (arith, r.which));
+        desk_complete = λ _ _ g. absurd (is_number-none desk n t.2 g);
+        desk_sound = λ g. absurd (omega (arith, r.which));
+        missing_complete = λ _ _ _. refl;
+        missing_sound = λ _. (none, is_number-none desk n t.2);
+        zero_missing = λ _ _. refl;
+        ones_missing = λ _ _. refl;
       }
 
   found-refused : Told card desk n Refused → CertificateC card desk n (certificate_result Refused)
@@ -156,17 +156,17 @@ module _ (card desk : List ℕ) (n : ℕ) where
   found-refused t =
       let r = tells (certificate_result Refused) 9 0 0 0 (omega arith) (omega arith) (omega arith) refl in
       record {
-        refused-complete = λ _. refl;
-        refused-sound = λ _. sym both ∙ t;
-        which-known = rw r.which (Memᴰ.head refl);
-        card-complete = λ z _. absurd (omega (arith, r.refusal));
-        card-sound = λ g. absurd (omega (arith, r.which));
-        desk-complete = λ z _ _. absurd (omega (arith, r.refusal));
-        desk-sound = λ g. absurd (omega (arith, r.which));
-        missing-complete = λ z _ _. absurd (omega (arith, r.refusal));
-        missing-sound = λ z. absurd (omega arith);
-        zero-missing = λ z _. absurd (omega (arith, r.refusal));
-        ones-missing = λ z _. absurd (omega (arith, r.refusal));
+        refused_complete = λ _. refl;
+        refused_sound = λ _. sym both ∙ t;
+        which_known = rw r.which (Memᴰ.head refl);
+        card_complete = λ z _. absurd (omega (arith, r.refusal));
+        card_sound = λ g. absurd (omega (arith, r.which));
+        desk_complete = λ z _ _. absurd (omega (arith, r.refusal));
+        desk_sound = λ g. absurd (omega (arith, r.which));
+        missing_complete = λ z _ _. absurd (omega (arith, r.refusal));
+        missing_sound = λ z. absurd (omega arith);
+        zero_missing = λ z _. absurd (omega (arith, r.refusal));
+        ones_missing = λ z _. absurd (omega (arith, r.refusal));
       }
 
 pub c_certificate : CCertificate
@@ -240,7 +240,7 @@ kept_from img desk other later n o ok w =
     let k = located-kept (card_body img) (card_body (after_c img later)) g.0 t.0.0 d g.1 desk other n s (certificates_ok-body_ok other ∙ ok) f.1 in
     let q = t.2 in (
       ap certificate_result (k.0 ∙ sym f.1),
-      rw f.1 (card_bytes (card_body (after_c img later)) s q.start_small q.length-small ∙ k.1 ∙ sym (card_bytes (card_body img) s q.start_small q.length-small)),
+      rw f.1 (card_bytes (card_body (after_c img later)) s q.start_small q.length_small ∙ k.1 ∙ sym (card_bytes (card_body img) s q.start_small q.length_small)),
     )
 
 pub c_certificate-kept : CCertificateKept
@@ -251,8 +251,8 @@ c_certificate-kept img desk other calls later n o ok w =
     let k = kept_from now desk other later n h.well ok w in
     let e = after_c-append img calls later in
     record {
-      result-kept = ap (λ (l : List ℕ). certificate_on l other n) e ∙ k.0;
-      bytes-kept = ap (λ (l : List ℕ). certificate_bytes (card_body l) (certificate_on now desk n)) e ∙ k.1;
-      history = ((c_certificate (card_body now) desk n).card-sound w).bytes
+      result_kept = ap (λ (l : List ℕ). certificate_on l other n) e ∙ k.0;
+      bytes_kept = ap (λ (l : List ℕ). certificate_bytes (card_body l) (certificate_on now desk n)) e ∙ k.1;
+      history = ((c_certificate (card_body now) desk n).card_sound w).bytes
           ∙ ap (λ (rs : List (List ℕ)). nth rs n) (card_records now h.well ∙ h.records 0x011A certificates_records);
     }

@@ -247,13 +247,13 @@ module _ (img : List ℕ) (s : Session) (ch : Chain) (cmd : List ℕ) (n : ℕ) 
   stores_there : StoresThere img s ch cmd buf c
   stores_there =
       record {
-        verdict-same = cut-verdict;
+        verdict_same = cut-verdict;
         number = subst (λ (v : Verdict). Memᴰ (verdict_number v) (0 ∷ 2 ∷ 4 ∷ [])) (sym cut-verdict) (verdict-listed img (all_of (session_fits img s ∷ chain_fits ch ∷ [])));
-        none-refused = refused cutting;
+        none_refused = refused cutting;
         append = appended cutting;
         activate = activated cutting;
         none_other = others cutting;
-        image-kept = kept cutting;
+        image_kept = kept cutting;
       }
     where
       refused : Cutting → (o.answer.status ≡ 0x9000 → ⊥) → c.answer.stores ≡ 0

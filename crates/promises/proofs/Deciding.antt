@@ -111,7 +111,7 @@ some_data x z =
     let a = tlv 0x81 x.text in
     let b = tlv 0xB1 a in
     let d = tlv 0x51 x.file ++ tlv 0xA1 (tlv 0x80 (x.mode ∷ []) ++ tlv 0xB0 (tlv 0x02 x.offset ++ tlv 0x02 x.number)) in
-    let k = z.text-size in
+    let k = z.text_size in
     omega (arith, length-tlv 0x81 x.text, length-tlv 0xB1 a, length-tlv 0xA3 b, length-append d (tlv 0xA3 b), length-tlv 0x7F76 (d ++ tlv 0xA3 b))
 
 -- steps 7 to 9 answer the file of a search
@@ -149,7 +149,7 @@ search_reached img s ch cmd f x c =
           led ch cmd f c.shape img s (ap (λ (y : Header). y.cla) c.header) (ap (λ (y : Header). y.ins) c.header)
           ∙ passed img s f d t
           ∙ ap (search_by img s f.ne d) (ap read_search c.writes ∙ k.1)
-          ∙ ap (λ (v : List ℕ). on_record (resolve_record img s Read (search_named v)) (search_on q f.ne)) w.file-placed.is;
+          ∙ ap (λ (v : List ℕ). on_record (resolve_record img s Read (search_named v)) (search_on q f.ne)) w.file_placed.is;
       searches = w;
     }
 
@@ -188,7 +188,7 @@ search_decided_sound img s ch cmd r q ne a b e = go (way img s ch cmd)
         let i = eqb-true f.header.ins 0xA2 h.pair.1 in
         let v = tested img s f d r q ne (sym (led ch cmd f z img s c i) ∙ e) in
         let l = header_is f.header c i (eqb-true f.header.p1 0x00 v.p1) (eqb-true f.header.p2 0xF8 v.p2) in
-        let u = here x k.1.file-placed.is h.at in
+        let u = here x k.1.file_placed.is h.at in
         let o = record_permitted img s Read (search_named x.file) r u in (
           f,
           x,
@@ -308,5 +308,5 @@ m6 b = record {
   header = refl;
   le = refl;
   writes = refl;
-  sized = record { file-size = (omega arith, omega arith); mode-is = inl refl; offset-size = (omega arith, omega arith); number_size = (omega arith, omega arith); text-size = omega arith; whole = lit≤ tt };
+  sized = record { file_size = (omega arith, omega arith); mode_is = inl refl; offset_size = (omega arith, omega arith); number_size = (omega arith, omega arith); text_size = omega arith; whole = lit≤ tt };
 }

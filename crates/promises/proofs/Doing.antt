@@ -245,14 +245,14 @@ update-done img s ch cmd buf f so y b = came img s ch cmd buf f b R (update_bina
           number = n;
           offset = offset;
           bytes = bytes;
-          of-current = λ h. subst (λ (x : Named). WritesTo img s x n) ((id-or-current (p1p2 f)).0 h) to;
-          of-id = λ h. subst (λ (x : Named). WritesTo img s x n) ((id-or-current (p1p2 f)).1 h) to;
+          of_current = λ h. subst (λ (x : Named). WritesTo img s x n) ((id-or-current (p1p2 f)).0 h) to;
+          of_id = λ h. subst (λ (x : Named). WritesTo img s x n) ((id-or-current (p1p2 f)).1 h) to;
           writes = u.written;
           sized = u.sized;
-          stands = ap written_bytes new ∙ update-content (body img k) w.offset dat t ∙ ap₂ (splice (written_bytes (body img k))) u.offset-is u.bytes-placed.is;
+          stands = ap written_bytes new ∙ update-content (body img k) w.offset dat t ∙ ap₂ (splice (written_bytes (body img k))) u.offset_is u.bytes_placed.is;
           larger = ap written new ∙ update-written (body img k) w.offset dat t
-              ∙ ap₂ (λ (a : ℕ) (l : List ℕ). max (written (body img k)) (a + length l)) u.offset-is u.bytes-placed.is;
-          state-kept = ap state new ∙ update-state (body img k) w.offset dat t;
+              ∙ ap₂ (λ (a : ℕ) (l : List ℕ). max (written (body img k)) (a + length l)) u.offset_is u.bytes_placed.is;
+          state_kept = ap state new ∙ update-state (body img k) w.offset dat t;
           only = only_changed img _ k (write_changes img s ch cmd buf o n w (data_of ch cmd) a);
           current = refl;
         }
@@ -299,10 +299,10 @@ activate-done img s ch cmd buf f b = came img s ch cmd buf f b R (activate_file 
         let h = biometrics-file img k o g.kind g.stands in
         record {
           number = n;
-          of-current = biometrics-writes img s Current n e r;
+          of_current = biometrics-writes img s Current n e r;
           active = ap state new ∙ activate-state (body img k) h;
-          written-kept = ap written new ∙ activate-written (body img k) h;
-          content-kept = ap written_bytes new ∙ activate-content (body img k) h;
+          written_kept = ap written new ∙ activate-written (body img k) h;
+          content_kept = ap written_bytes new ∙ activate-content (body img k) h;
           only = only_changed img _ k (activate_changes img k o g.kind g.stands);
           current = refl;
         }
@@ -344,11 +344,11 @@ read_done img s ch cmd buf f b = came img s ch cmd buf f b R (read_binary img s 
         record {
           file = t;
           offset = read_offset f;
-          of-current = λ y. let q = (read_named_lem f).0 y in (subst (λ (x : Named). Inspected img s x (TransparentFile t)) q.0 i, q.1);
-          of-short = λ y. let q = (read_named_lem f).1 y in (subst (λ (x : Named). Inspected img s x (TransparentFile t)) q.0 i, q.1);
+          of_current = λ y. let q = (read_named_lem f).0 y in (subst (λ (x : Named). Inspected img s x (TransparentFile t)) q.0 i, q.1);
+          of_short = λ y. let q = (read_named_lem f).1 y in (subst (λ (x : Named). Inspected img s x (TransparentFile t)) q.0 i, q.1);
           inside = h;
           told = data_said 0x9000 (part (file_bytes img t) (read_offset f) n) (set_file s (TransparentFile t)) img buf l (accepted_room img s ch buf (is-accepted img s ch cmd buf f b));
-          image-kept = refl;
+          image_kept = refl;
           current = refl;
         }
 
@@ -389,17 +389,17 @@ read_odd_done img s ch cmd buf f so y b = came img s ch cmd buf f b R (read_bina
           file = t;
           offset = x.0;
           bytes = c;
-          of-current = λ h. subst (λ (x : Named). Inspected img s x (TransparentFile t)) ((id-or-current (p1p2 f)).0 h) i;
-          of-id = λ h. subst (λ (x : Named). Inspected img s x (TransparentFile t)) ((id-or-current (p1p2 f)).1 h) i;
+          of_current = λ h. subst (λ (x : Named). Inspected img s x (TransparentFile t)) ((id-or-current (p1p2 f)).0 h) i;
+          of_id = λ h. subst (λ (x : Named). Inspected img s x (TransparentFile t)) ((id-or-current (p1p2 f)).1 h) i;
           asks = o.written;
           size = o.size;
           told = told;
-          content = ap₂ (part (file_bytes img t)) o.offset-is (sym l);
+          content = ap₂ (part (file_bytes img t)) o.offset_is (sym l);
           some = omega (arith, l, k.some);
-          inside = omega (arith, l, o.offset-is, k.inside);
+          inside = omega (arith, l, o.offset_is, k.inside);
           fits = omega (arith, ap length told, q, k.fits);
-          as_many = λ more h j. omega (arith, object_length-tlv 0x53 more (omega arith), k.longest (length more) (omega (arith, l)) (omega (arith, o.offset-is)));
-          image-kept = refl;
+          as_many = λ more h j. omega (arith, object_length-tlv 0x53 more (omega arith), k.longest (length more) (omega (arith, l)) (omega (arith, o.offset_is)));
+          image_kept = refl;
           current = refl;
         }
 
@@ -448,12 +448,12 @@ select-done img s ch cmd buf f b = came img s ch cmd buf f b R (select img s f (
         unfold done says in
         in_order-each (Came img s (data_of ch cmd) buf R) _ _ (word 0x6A82 refl, (word 0x6982 refl, tt))
         (λ p z. record {
-          p1-known = Memᴰ.head e;
-          by-aid = λ _. (a, q, p.0, p.1.0, refl);
-          by-id = λ y. absurd (omega (arith, e, y));
-          by-master = λ y. absurd (omega (arith, e, y));
-          image-kept = refl;
-          nothing-told = refl;
+          p1_known = Memᴰ.head e;
+          by_aid = λ _. (a, q, p.0, p.1.0, refl);
+          by_file_id = λ y. absurd (omega (arith, e, y));
+          by_master = λ y. absurd (omega (arith, e, y));
+          image_kept = refl;
+          nothing_told = refl;
         })
 
     file : p1 ≡ 0x02 → length (data_of ch cmd) ≡ 2 → Came img s (data_of ch cmd) buf R (select_file img s (id_in (data_of ch cmd)))
@@ -461,12 +461,12 @@ select-done img s ch cmd buf f b = came img s ch cmd buf f b R (select img s f (
         unfold select_file done says in
         on-file img s (data_of ch cmd) buf R (Id (id_in (data_of ch cmd))) SelectFile
         (λ g q r z. record {
-          p1-known = Memᴰ.tail (Memᴰ.head e);
-          by-aid = λ y. absurd (omega (arith, e, y));
-          by-id = λ _. (g, l, file_inspected img s (Id (id_in (data_of ch cmd))) g q r, refl);
-          by-master = λ y. absurd (omega (arith, e, y));
-          image-kept = refl;
-          nothing-told = refl;
+          p1_known = Memᴰ.tail (Memᴰ.head e);
+          by_aid = λ y. absurd (omega (arith, e, y));
+          by_file_id = λ _. (g, l, file_inspected img s (Id (id_in (data_of ch cmd))) g q r, refl);
+          by_master = λ y. absurd (omega (arith, e, y));
+          image_kept = refl;
+          nothing_told = refl;
         })
 
     master : p1 ≡ 0x00 → length (data_of ch cmd) ≡ 2 → Came img s (data_of ch cmd) buf R (select_master (id_in (data_of ch cmd)))
@@ -474,12 +474,12 @@ select-done img s ch cmd buf f b = came img s ch cmd buf f b R (select img s f (
         unfold select_master done says in
         if_else_ind (Came img s (data_of ch cmd) buf R) (eqb (id_in (data_of ch cmd)) 0x3F00)
         (λ q z. record {
-          p1-known = Memᴰ.tail (Memᴰ.tail (Memᴰ.head e));
-          by-aid = λ y. absurd (omega (arith, e, y));
-          by-id = λ y. absurd (omega (arith, e, y));
-          by-master = λ _. (l, eqb-true (id_in (data_of ch cmd)) 0x3F00 q, refl);
-          image-kept = refl;
-          nothing-told = refl;
+          p1_known = Memᴰ.tail (Memᴰ.tail (Memᴰ.head e));
+          by_aid = λ y. absurd (omega (arith, e, y));
+          by_file_id = λ y. absurd (omega (arith, e, y));
+          by_master = λ _. (l, eqb-true (id_in (data_of ch cmd)) 0x3F00 q, refl);
+          image_kept = refl;
+          nothing_told = refl;
         })
         (λ q. word 0x6A82 refl)
 
@@ -525,12 +525,12 @@ fmm-done img s ch cmd buf f so y b = came img s ch cmd buf f b R (fmm img s f (d
         (λ p z. record {
           file = g;
           named = n;
-          of-current = c;
-          of-named = d;
+          of_current = c;
+          of_named = d;
           reached = file_inspected img s n g e r;
           told = data_said 0x9000 (report_data p2 (total img g) (remaining img g) (existing img g)) (set_file s g) img buf
               (report_bound p2 (total img g) (remaining img g) (existing img g)) (accepted_room img s ch buf (is-accepted img s ch cmd buf f b));
-          image-kept = refl;
+          image_kept = refl;
           current = refl;
         }))
 
@@ -542,13 +542,13 @@ fmm-done img s ch cmd buf f so y b = came img s ch cmd buf f b R (fmm img s f (d
         → (length (value q) ≡ 2 → n ≡ Id (id_in (value q))) → Referred (data_of ch cmd) n
     refers q e n c d =
         let x = reference_sound (data_of ch cmd) q e (data_bytes ch cmd f b.shape so y) in
-        let w = x.1.file-placed.is in
+        let w = x.1.file_placed.is in
         record {
           reference = value q;
           writes = x.1.written ∙ ap reference_data (sym w);
-          size = subst (λ (l : List ℕ). (1 ≤ length l) × (length l ≤ 2)) (sym w) x.1.file-size;
-          by-short = c;
-          by-id = d;
+          size = subst (λ (l : List ℕ). (1 ≤ length l) × (length l ≤ 2)) (sym w) x.1.file_size;
+          by_short_id = c;
+          by_file_id = d;
         }
 
     by-reference : (q : Span) → read_reference (data_of ch cmd) ≡ Refers q → (p1 ≡ 0 → ⊥) → Came img s (data_of ch cmd) buf R (fmm_file img s p2 (value q))

@@ -339,16 +339,16 @@ module _ (i b : ℕ) (n : i < 20) (h : 1 ≤ b) (m : b ≤ bits_of i) where
         let v : verdict_on img (session_for i q) NoChain (length buf) ≡ Accepted = rw (f, t.well, le-ltb (length buf) 2050 l) refl in
         ap (λ (o : Outcome). o.answer.status) (step_accepted img (session_for i q) NoChain cmd buf v)
 
-    with-bit : bit (rights_byte r i) b ≡ true → status_of r ≡ 0x9000
-    with-bit e =
+    with_bit : bit (rights_byte r i) b ≡ true → status_of r ≡ 0x9000
+    with_bit e =
         let w : status_of (only i b) ≡ 0x9000 = word_of (only i b) t.only-fits ∙ t.only-word in
         ⊎_elim
         (λ q. sym (ap (λ (o : Outcome). o.answer.status) q.reply) ∙ w)
         (λ q. let d : ◌≡◌ {A = ℕ} 0x6982 0x9000 = sym (ap (λ (o : Outcome). o.answer.status) q.reply) ∙ w in absurd (omega arith))
         (fewer_rights img (session_for i r) (only i b) NoChain cmd buf fits t.only-fits (only-subset i b n h eight r z e))
 
-    without-bit : bit (rights_byte r i) b ≡ false → status_of r ≡ 0x6982
-    without-bit e =
+    lacks_bit : bit (rights_byte r i) b ≡ false → status_of r ≡ 0x6982
+    lacks_bit e =
         ⊎_elim
         (λ q. ap (λ (o : Outcome). o.answer.status) q.reply ∙ word_of (cleared (all_but i b)) t.but-fits ∙ t.but-word)
         (λ q. ap (λ (o : Outcome). o.answer.status) q.reply)
@@ -361,6 +361,6 @@ each-bit_counts i b n h m =
       application = application_for i;
       command = command_for i b;
       one_bit = one_bit i b n h m;
-      with-bit = with-bit i b n h m;
-      without-bit = without-bit i b n h m;
+      with_bit = with_bit i b n h m;
+      lacks_bit = lacks_bit i b n h m;
     }

@@ -124,7 +124,7 @@ fewer_rights img s few ch cmd buf h k u =
     let d = step_kept img (with_rights s few) ch cmd buf in
     inr (record {
       reply = r;
-      chain = d.chain-dropped (ap (λ (o : Outcome). verdict_number o.answer.verdict) r ∙ unfold verdict_number in refl) (λ z. word-apart (sym (ap (λ (o : Outcome). o.answer.status) r) ∙ z));
+      chain = d.chain_dropped (ap (λ (o : Outcome). verdict_number o.answer.verdict) r ∙ unfold verdict_number in refl) (λ z. word-apart (sym (ap (λ (o : Outcome). o.answer.status) r) ∙ z));
     }))
     (by-verdict img s few ch cmd buf u (verdict_on img s ch (length buf)) (accepted_room img s ch buf))
   where

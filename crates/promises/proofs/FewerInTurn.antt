@@ -47,7 +47,7 @@ module _ (img : List ℕ) (s : Session) (ch : Chain) (buf : List ℕ) (v : verdi
   blank-left =
       let k = step_kept img s ch [] buf in
       let n : verdict_number (step img s ch [] buf).answer.verdict ≡ 0 = ap verdict_number (step-verdict img s buf ch [] ∙ v) ∙ unfold verdict_number in refl in
-      λ i. record { image = k.image-kept blank-not i; session = k.session-kept blank-not i; chain = k.chain-dropped n blank-not i }
+      λ i. record { image = k.image_kept blank-not i; session = k.session_kept blank-not i; chain = k.chain_dropped n blank-not i }
 
 -- ---- one command after the other
 
@@ -60,9 +60,9 @@ module _ (b : Between) (few : Rights) (c : Sent) (cs : List Sent) where
   unfolding after_sent
   go_on d next e f m h =
       record {
-        with-more = d ∷ h.with-more;
+        with_more = d ∷ h.with_more;
         replies = (m, rw (e, f) h.replies);
-        left = ap (λ (x : Between). after_sent x cs) f ∙ h.left ∙ ap (λ (x : Between). between_with (after_sent x h.with-more) few) (sym e);
+        left = ap (λ (x : Between). after_sent x cs) f ∙ h.left ∙ ap (λ (x : Between). between_with (after_sent x h.with_more) few) (sym e);
       }
 
 -- ---- the theorem
@@ -116,7 +116,7 @@ module _ (c : Sent) (cs : List Sent) (ih : Claim cs) (b : Between) (few : Rights
 
 all_sent : (cs : List Sent) → Claim cs
 unfolding Claim after_sent
-all_sent [] b few w h k f u = record { with-more = []; replies = tt; left = refl }
+all_sent [] b few w h k f u = record { with_more = []; replies = tt; left = refl }
 all_sent (c ∷ cs) b few w h k f u = one_more c cs (all_sent cs) b few w h k f u
 
 pub learns_no_more : LearnsNoMore

@@ -260,7 +260,7 @@ activate_in_order img s ch cmd buf f n z p w = go (cutting img s ch cmd n buf lo
               number = b;
               start = at-s;
               room = m;
-              of-current = biometrics-writes img s Current b (activate-current img s ch cmd f b z p e) r;
+              of_current = biometrics-writes img s Current b (activate-current img s ch cmd f b z p e) r;
               stands = h;
               stored = i ∙ in_image img k at-s m h n State (data_of ch cmd) (within at-s m h) ∙ ap (λ (ss : List Store). made (take n ss) img) (alone at-s);
             }

@@ -82,14 +82,14 @@ module _ (k : ℕ) (xs ps : List ℕ) where
       let l = build_list k xs ps e h in
       let c = records-length xs in
       record {
-        refused-complete = λ f. absurd (f (record_file_ok_row k xs e) (omega arith));
-        refused-sound = λ g. absurd (omega (arith, t.refusal));
-        refused-kept = λ g. absurd (omega (arith, t.refusal));
+        refused_complete = λ f. absurd (f (record_file_ok_row k xs e) (omega arith));
+        refused_sound = λ g. absurd (omega (arith, t.refusal));
+        refused_kept = λ g. absurd (omega (arith, t.refusal));
         number = λ _. t.whole ∙ sym c;
         places = λ _ n i. build-entry k xs ps e h n i.0 (omega (arith, i.1));
-        rest-kept = ap (drop (indexed_in (index_result (build k xs ps)))) l
+        rest_kept = ap (drop (indexed_in (index_result (build k xs ps)))) l
             ∙ drop-sets_past (indexed_in (index_result (build k xs ps))) ps 0 (places_to xs (count xs)) (omega (arith, t.low, length-places xs (count xs)));
-        size-kept = ap length l ∙ length-sets ps 0 (places_to xs (count xs));
+        size_kept = ap length l ∙ length-sets ps 0 (places_to xs (count xs));
       }
 
   not-built : build_ok k xs ps ≡ false → BuildC k xs ps (index_result (build k xs ps)) (build_into k xs ps)
@@ -98,13 +98,13 @@ module _ (k : ℕ) (xs ps : List ℕ) where
       let t = refuses (index_result (build k xs ps)) (ap index_result (sym b.0)) in
       let l : build_into k xs ps ≡ ps = sym b.1 in
       record {
-        refused-complete = λ _. t.six;
-        refused-sound = λ _ y h. false-true (sym f ∙ build_ok_accepted k xs ps (row_record_file_ok k xs y) (omega (arith, records-length xs)));
-        refused-kept = λ _. l;
+        refused_complete = λ _. t.six;
+        refused_sound = λ _ y h. false-true (sym f ∙ build_ok_accepted k xs ps (row_record_file_ok k xs y) (omega (arith, records-length xs)));
+        refused_kept = λ _. l;
         number = λ z. absurd (omega (arith, t.refusal));
         places = λ z. absurd (omega (arith, t.refusal));
-        rest-kept = ap (drop (indexed_in (index_result (build k xs ps)))) l;
-        size-kept = ap length l;
+        rest_kept = ap (drop (indexed_in (index_result (build k xs ps)))) l;
+        size_kept = ap length l;
       }
 
 pub c_index_builds : CIndexBuilds
@@ -120,13 +120,13 @@ module _ (k : ℕ) (xs ps : List ℕ) (n : ℕ) where
       let t = tells (index_result (extend k xs ps n)) (n + 1) (ap index_result (sym d.0)) (omega arith) in
       let l : extend_into k xs ps n ≡ set ps n (place xs n) = sym d.1 in
       record {
-        refused-complete = λ f. absurd (f (record_file_ok_row k xs e) (records-length xs ∙ sym c) h);
-        refused-sound = λ g. absurd (omega (arith, t.refusal));
-        refused-kept = λ g. absurd (omega (arith, t.refusal));
+        refused_complete = λ f. absurd (f (record_file_ok_row k xs e) (records-length xs ∙ sym c) h);
+        refused_sound = λ g. absurd (omega (arith, t.refusal));
+        refused_kept = λ g. absurd (omega (arith, t.refusal));
         number = λ _. t.whole;
         added = λ _. ap (λ (m : List ℕ). get_or m n 0) l ∙ get_or-set_same ps n (place xs n) 0 h;
-        others-kept = λ i f. ap (λ (m : List ℕ). get_or m i 0) l ∙ get_or-set_other ps n i (place xs n) 0 f;
-        size-kept = ap length l ∙ length-set ps n (place xs n);
+        others_kept = λ i f. ap (λ (m : List ℕ). get_or m i 0) l ∙ get_or-set_other ps n i (place xs n) 0 f;
+        size_kept = ap length l ∙ length-set ps n (place xs n);
       }
 
   not_extended : extend_ok k xs ps n ≡ false → ExtendC k xs ps n (index_result (extend k xs ps n)) (extend_into k xs ps n)
@@ -135,13 +135,13 @@ module _ (k : ℕ) (xs ps : List ℕ) (n : ℕ) where
       let t = refuses (index_result (extend k xs ps n)) (ap index_result (sym b.0)) in
       let l : extend_into k xs ps n ≡ ps = sym b.1 in
       record {
-        refused-complete = λ _. t.six;
-        refused-sound = λ _ y c h. false-true (sym f ∙ extend_ok_accepted k xs ps n (row_record_file_ok k xs y) (sym c ∙ records-length xs) h);
-        refused-kept = λ _. l;
+        refused_complete = λ _. t.six;
+        refused_sound = λ _ y c h. false-true (sym f ∙ extend_ok_accepted k xs ps n (row_record_file_ok k xs y) (sym c ∙ records-length xs) h);
+        refused_kept = λ _. l;
         number = λ z. absurd (omega (arith, t.refusal));
         added = λ z. absurd (omega (arith, t.refusal));
-        others-kept = λ i _. ap (λ (m : List ℕ). get_or m i 0) l;
-        size-kept = ap length l;
+        others_kept = λ i _. ap (λ (m : List ℕ). get_or m i 0) l;
+        size_kept = ap length l;
       }
 
 pub c_index_extends : CIndexExtends
@@ -155,8 +155,8 @@ module _ (xs ps : List ℕ) (n : ℕ) (b : AllBytes xs) where
   read y =
       let t = tells (index_result (measure xs ps n)) (le16 xs (get_or ps (n - 1) 0)) (ap index_result (sym (measure-whole xs ps n y.first y.last y.within))) (omega (arith, le16_small xs (get_or ps (n - 1) 0) b)) in
       record {
-        refused-complete = λ f. absurd (f y);
-        refused-sound = λ g. absurd (omega (arith, t.refusal));
+        refused_complete = λ f. absurd (f y);
+        refused_sound = λ g. absurd (omega (arith, t.refusal));
         size = λ _. t.whole;
         within = λ _. omega (arith, y.within, t.whole);
       }
@@ -165,8 +165,8 @@ module _ (xs ps : List ℕ) (n : ℕ) (b : AllBytes xs) where
   not-read e f =
       let t = refuses (index_result (measure xs ps n)) (ap index_result e) in
       record {
-        refused-complete = λ _. t.six;
-        refused-sound = λ _. f;
+        refused_complete = λ _. t.six;
+        refused_sound = λ _. f;
         size = λ z. absurd (omega (arith, t.refusal));
         within = λ z. absurd (omega (arith, t.refusal));
       }
@@ -309,7 +309,7 @@ c_index_kept k img ps calls o h b room =
     let r = built-reads k ps b new w.well (w.files k h) (omega (arith, records-length (lent_body new k), ap length rs)) in
     record {
       reads = subst (ReadsRecords (lent_body new k) (history_c k img calls)) (sym built) (subst (λ (l : List (List ℕ)). ReadsRecords (lent_body new k) l (built_c k new ps)) rs r);
-      as-built = built;
+      as_built = built;
     }
 
 pub c_index_room : CIndexRoom
@@ -325,7 +325,7 @@ module _ (s : Session) (f : Frame) (rs : ℕ → List (List ℕ)) (o : Outcome) 
   unfolding number_asked
   asked =
       by_cases (eqb f.header.p1 0)
-      (λ e. simp e (ap place_record (q.by-current (eqb-true _ _ e))))
+      (λ e. simp e (ap place_record (q.by_current (eqb-true _ _ e))))
       (λ e. simp e (sym (q.by_number (eqb-false _ _ e))))
 
 -- a record file that P2 means is no biometrics file

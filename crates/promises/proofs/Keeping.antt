@@ -53,12 +53,12 @@ module _ (img : List ℕ) (s : Session) (ch : Chain) (buf : List ℕ) where
   unfolding says word verdict_number
   says-kept w dat t im left i j k =
       record {
-        image-kept = i;
-        session-kept = j;
-        chain-dropped = λ v. k;
-        chain-kept = λ e. k;
-        rest-kept = ap (λ (n : ℕ). drop n (put buf 0 (dat ++ word w))) (sym long) ∙ put_rest buf (dat ++ word w) ∙ ap (λ (n : ℕ). drop n buf) long;
-        size-kept = put-size buf (dat ++ word w);
+        image_kept = i;
+        session_kept = j;
+        chain_dropped = λ v. k;
+        chain_kept = λ e. k;
+        rest_kept = ap (λ (n : ℕ). drop n (put buf 0 (dat ++ word w))) (sym long) ∙ put_rest buf (dat ++ word w) ∙ ap (λ (n : ℕ). drop n buf) long;
+        size_kept = put-size buf (dat ++ word w);
         number = Memᴰ.head refl;
         refused = λ h. absurd (omega (arith, h));
       }
@@ -100,16 +100,16 @@ module _ (img : List ℕ) (s : Session) (ch : Chain) (buf : List ℕ) where
   shape-kept Bad cmd e = word_kept _
   shape-kept (Good f) cmd e = course-kept (turn ch f) _ f _ e _
 
-  refused-kept : (r : Refusal) → Memᴰ (refusal_number r) (0 ∷ 1 ∷ 2 ∷ 4 ∷ []) → Kept img s ch buf (outcome (refused r s) img buf) ch
+  refused_kept : (r : Refusal) → Memᴰ (refusal_number r) (0 ∷ 1 ∷ 2 ∷ 4 ∷ []) → Kept img s ch buf (outcome (refused r s) img buf) ch
   unfolding verdict_number refusal_number
-  refused-kept r h =
+  refused_kept r h =
       record {
-        image-kept = λ e. refl;
-        session-kept = λ e. refl;
-        chain-dropped = λ z. absurd (some r z);
-        chain-kept = λ e z. e;
-        rest-kept = refl;
-        size-kept = refl;
+        image_kept = λ e. refl;
+        session_kept = λ e. refl;
+        chain_dropped = λ z. absurd (some r z);
+        chain_kept = λ e z. e;
+        rest_kept = refl;
+        size_kept = refl;
         number = h;
         refused = λ e. (refl, refl, refl, refl, refl, refl);
       }
@@ -124,10 +124,10 @@ module _ (img : List ℕ) (s : Session) (ch : Chain) (buf : List ℕ) where
   step_by-kept : (x : Verdict) (cmd : List ℕ) → (verdict_number x ≡ 3 → ⊥) → Kept img s ch buf (step_by x img s ch cmd buf) (chain_after_by x ch cmd)
   unfolding step_by verdict_number refusal_number decide chain_behind
   step_by-kept Accepted cmd n = shape-kept (shape_of cmd) cmd (data_of ch cmd)
-  step_by-kept (Refused ShortBuffer) cmd n = refused-kept ShortBuffer (Memᴰ.tail (Memᴰ.head refl))
-  step_by-kept (Refused BadImage) cmd n = refused-kept BadImage (Memᴰ.tail (Memᴰ.tail (Memᴰ.head refl)))
+  step_by-kept (Refused ShortBuffer) cmd n = refused_kept ShortBuffer (Memᴰ.tail (Memᴰ.head refl))
+  step_by-kept (Refused BadImage) cmd n = refused_kept BadImage (Memᴰ.tail (Memᴰ.tail (Memᴰ.head refl)))
   step_by-kept (Refused BadRights) cmd n = absurd (n refl)
-  step_by-kept (Refused BadSession) cmd n = refused-kept BadSession (Memᴰ.tail (Memᴰ.tail (Memᴰ.tail (Memᴰ.head refl))))
+  step_by-kept (Refused BadSession) cmd n = refused_kept BadSession (Memᴰ.tail (Memᴰ.tail (Memᴰ.tail (Memᴰ.head refl))))
 
 pub verdict-not-rights : (img : List ℕ) (fits : Bool) (n : ℕ) → verdict_number (verdict img fits n) ≡ 3 → ⊥
 unfolding verdict verdict_number refusal_number

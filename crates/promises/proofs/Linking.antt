@@ -354,7 +354,7 @@ module _ (img ses cmd buf : List ℕ) (y : is_session_c ses ≡ true) where
         front = take 25 ses;
         whole = refl;
         front_long = mid-long;
-        reads = (r.0, r.1 ∙ sym ((step_kept img s (chain_of_c ses) cmd buf).session-kept d));
+        reads = (r.0, r.1 ∙ sym ((step_kept img s (chain_of_c ses) cmd buf).session_kept d));
         front_kept = λ _. refl;
       }))
 
@@ -376,7 +376,7 @@ module _ (img ses cmd buf : List ℕ) (y : is_session_c ses ≡ true) where
   back_none z d = go (verdict_on img s (chain_of_c ses) (length buf)) refl
     where
       none : chain_after img s (chain_of_c ses) cmd (length buf) ≡ NoChain
-      none = (step_kept img s (chain_of_c ses) cmd buf).chain-kept z d
+      none = (step_kept img s (chain_of_c ses) cmd buf).chain_kept z d
 
       go : (v : Verdict) → verdict_on img s (chain_of_c ses) (length buf) ≡ v → chain_into_by v (chain_part ses) cmd ≡ chain_part ses
       go (Refused r) e = refl
@@ -443,7 +443,7 @@ result-whole img ses cmd buf bs b y =
     let h = step_small img (session_in ses) (chain_of_c ses) cmd buf (chain-bytes ses bs) b in
     let e = ap (λ (c : Called). c.result) (called-session img ses cmd buf y) in
     record {
-      length-small = omega (arith, h.0);
-      status-small = omega (arith, h.1);
+      length_small = omega (arith, h.0);
+      status_small = omega (arith, h.1);
       sum = e ∙ result-sum _ _ _ h.0 h.1;
     }

@@ -133,22 +133,22 @@ module _ (ch : Chain) (f : Frame) (l : is_link f.header ≡ true) where
   course-answered img s cmd d buf (Stops w) t (stopped v b) =
       let n : w ≡ 0x9000 → ⊥ = λ e. omega (arith, ltb-true w 0x9000 b, e) in
       record {
-        taken-complete = λ x. let z : Stops w ≡ Extends = sym t ∙ taken x in let y : ◌≡◌ {A = ℕ} 0 1 = cc in absurd (omega arith);
-        taken-sound = λ e. absurd (n e);
+        taken_complete = λ x. let z : Stops w ≡ Extends = sym t ∙ taken x in let y : ◌≡◌ {A = ℕ} 0 1 = cc in absurd (omega arith);
+        taken_sound = λ e. absurd (n e);
         joins = λ e. absurd (n e);
-        image-kept = refl;
-        session-kept = refl;
-        nothing-told = refl;
-        other-header = λ p g. let z : Stops w ≡ Stops other_header = sym t ∙ other p g in cc;
+        image_kept = refl;
+        session_kept = refl;
+        nothing_told = refl;
+        another_header = λ p g. let z : Stops w ≡ Stops other_header = sym t ∙ other p g in cc;
       }
   course-answered img s cmd d buf Extends t (joined x) = record {
-    taken-complete = λ y. refl;
-    taken-sound = λ e. takes x;
+    taken_complete = λ y. refl;
+    taken_sound = λ e. takes x;
     joins = λ e. refl;
-    image-kept = refl;
-    session-kept = refl;
-    nothing-told = refl;
-    other-header = λ p g. false-true (sym g ∙ (takes x).continues);
+    image_kept = refl;
+    session_kept = refl;
+    nothing_told = refl;
+    another_header = λ p g. false-true (sym g ∙ (takes x).continues);
   }
   course-answered img s cmd d buf Goes t (gone x) = false-true (sym x.whole ∙ l)
 
@@ -291,8 +291,8 @@ module _ (img : List ℕ) (s : Session) where
   at ch = record { image = img; session = s; chain = ch }
 
   -- a chain that fits does not change the verdict, nor does the length of a buffer that is long enough
-  verdict-same : (ch : Chain) (n : ℕ) → chain_fits ch ≡ true → verdict_on img s ch n ≡ verdict_on img s NoChain n
-  verdict-same ch n e = ap (λ (b : Bool). verdict img (all_of (session_fits img s ∷ b ∷ [])) n) e
+  verdict_same : (ch : Chain) (n : ℕ) → chain_fits ch ≡ true → verdict_on img s ch n ≡ verdict_on img s NoChain n
+  verdict_same ch n e = ap (λ (b : Bool). verdict img (all_of (session_fits img s ∷ b ∷ [])) n) e
 
   verdict-long : (n : ℕ) → 2050 ≤ n → verdict_on img s NoChain n ≡ verdict_on img s NoChain 2050
   unfolding verdict
@@ -348,7 +348,7 @@ module _ (img : List ℕ) (s : Session) where
         let y = x.0 in
         let next = extended ch y.frame.header l.piece in
         let m = length-append l.piece (pieces ls) in
-        let u : verdict_on img s ch (length l.buffer) ≡ Accepted = verdict-same ch (length l.buffer) a ∙ verdict-long (length l.buffer) y.long ∙ v in
+        let u : verdict_on img s ch (length l.buffer) ≡ Accepted = verdict_same ch (length l.buffer) a ∙ verdict-long (length l.buffer) y.long ∙ v in
         let t = link-taken h n l y ch e o (omega (arith, m, r)) in
         let z : after_sending (at ch) l.command l.buffer ≡ at next =
         sent-taken ch l.command l.buffer y.frame u y.shape t ∙ ap (λ (d : List ℕ). at (extended ch y.frame.header d)) y.carries in
@@ -403,23 +403,23 @@ module _ (img : List ℕ) (s : Session) (whole buf : List ℕ) (f : Frame) (ls :
       × (2050 ≤ length buf → chain_after b.image b.session b.chain last (length buf) ≡ NoChain)
 
   last-no-link : is_link end.header ≡ false
-  last-no-link = ap is_link c.last-header ∙ c.no-link
+  last-no-link = ap is_link c.last_header ∙ c.no_link
 
   own_length : length own ≡ end.lc
-  own_length = length_part last end.from end.lc (shape_facts last (shape_of last) end refl c.last-shape).inside
+  own_length = length_part last end.from end.lc (shape_facts last (shape_of last) end refl c.last_shape).inside
 
   all-length : length all ≡ f.lc
   all-length = length_part whole f.from f.lc (shape_facts whole (shape_of whole) f refl c.shape).inside
 
   whole-decided : decide img s NoChain whole ≡ by_class img s (whole_frame NoChain f) all
-  whole-decided = gone-decided img s NoChain whole f c.shape (alone_goes f c.no-link)
+  whole-decided = gone-decided img s NoChain whole f c.shape (alone_goes f c.no_link)
 
   -- the same answer, where the last is accepted exactly as the whole is and then does the same
   same_step : (ch : Chain) → chain_fits ch ≡ true
       → done (decide img s ch last) img s (data_of ch last) buf ≡ done (decide img s NoChain whole) img s (data_of NoChain whole) buf
       → step img s ch last buf ≡ step img s NoChain whole buf
   unfolding step step_by
-  same_step ch a e = ap (λ (v : Verdict). step_by v img s ch last buf) (verdict-same img s ch (length buf) a) ∙ go (verdict_on img s NoChain (length buf))
+  same_step ch a e = ap (λ (v : Verdict). step_by v img s ch last buf) (verdict_same img s ch (length buf) a) ∙ go (verdict_on img s NoChain (length buf))
     where
       go : (v : Verdict) → step_by v img s ch last buf ≡ step_by v img s NoChain whole buf
       go Accepted = e
@@ -431,7 +431,7 @@ module _ (img : List ℕ) (s : Session) (whole buf : List ℕ) (f : Frame) (ls :
   none_after = go (verdict_on img s NoChain (length buf))
     where
       go : (v : Verdict) → chain_after_by v NoChain last ≡ NoChain
-      go Accepted = gone-ends img s NoChain last end c.last-shape (alone_goes end last-no-link)
+      go Accepted = gone-ends img s NoChain last end c.last_shape (alone_goes end last-no-link)
       go (Refused r) = refl
 
   -- steps 2 to 4 fail: the links are stopped, and the last gets the status word of the whole
@@ -439,9 +439,9 @@ module _ (img : List ℕ) (s : Session) (whole buf : List ℕ) (f : Frame) (ls :
   unfolding done
   unfit-ends n =
       let a : decide img s NoChain last ≡ Status (early_word f.header) =
-      gone-decided img s NoChain last end c.last-shape (alone_goes end last-no-link)
-      ∙ early img s (whole_frame NoChain end) own (ap head_fits c.last-header ∙ n)
-      ∙ ap (λ (h : Header). Status (early_word h)) c.last-header in
+      gone-decided img s NoChain last end c.last_shape (alone_goes end last-no-link)
+      ∙ early img s (whole_frame NoChain end) own (ap head_fits c.last_header ∙ n)
+      ∙ ap (λ (h : Header). Status (early_word h)) c.last_header in
       let b : decide img s NoChain whole ≡ Status (early_word f.header) = whole-decided ∙ early img s (whole_frame NoChain f) all n in
       (same_step NoChain refl (simp (a, b)), λ l. none_after)
 
@@ -464,20 +464,20 @@ module _ (img : List ℕ) (s : Session) (whole buf : List ℕ) (f : Frame) (ls :
       → so_far ch ≡ pieces ls → Ends (at img s ch)
   unfolding chain_after
   joined-ends v e ch a o k =
-      let d : so_far ch ++ own ≡ all = ap (λ (l : List ℕ). l ++ own) k ∙ c.all-data in
+      let d : so_far ch ++ own ≡ all = ap (λ (l : List ℕ). l ++ own) k ∙ c.all_data in
       let m : length (so_far ch) + end.lc ≡ 0 + f.lc = omega (arith, sym (length-append (so_far ch) own), own_length, all-length, ap length d) in
       let t : turn ch end ≡ Goes =
-      last_goes ch end last-no-link (ap head_fits c.last-header ∙ e) (ap (goes_on ch) c.last-header ∙ o)
+      last_goes ch end last-no-link (ap head_fits c.last_header ∙ e) (ap (goes_on ch) c.last_header ∙ o)
       (omega (arith, m, (shape_facts whole (shape_of whole) f refl c.shape).few)) in
       let x : decide img s ch last ≡ decide img s NoChain whole =
-      gone-decided img s ch last end c.last-shape t
-      ∙ same-frame img s (whole_frame ch end) (whole_frame NoChain f) (so_far ch ++ own) c.last-header m c.last-le c.last-ne
+      gone-decided img s ch last end c.last_shape t
+      ∙ same-frame img s (whole_frame ch end) (whole_frame NoChain f) (so_far ch ++ own) c.last_header m c.last_le c.last_ne
       ∙ ap (by_class img s (whole_frame NoChain f)) d
       ∙ sym whole-decided in
-      let y : data_of ch last ≡ data_of NoChain whole = gone-data img s ch last end c.last-shape t ∙ d ∙ sym (gone-data img s NoChain whole f c.shape (alone_goes f c.no-link)) in (
+      let y : data_of ch last ≡ data_of NoChain whole = gone-data img s ch last end c.last_shape t ∙ d ∙ sym (gone-data img s NoChain whole f c.shape (alone_goes f c.no_link)) in (
         same_step ch a (ap₂ (λ (z : Action) (l : List ℕ). done z img s l buf) x y),
-        λ l. ap (λ (w : Verdict). chain_after_by w ch last) (verdict-same img s ch (length buf) a ∙ verdict-long img s (length buf) l ∙ v)
-            ∙ gone-ends img s ch last end c.last-shape t,
+        λ l. ap (λ (w : Verdict). chain_after_by w ch last) (verdict_same img s ch (length buf) a ∙ verdict-long img s (length buf) l ∙ v)
+            ∙ gone-ends img s ch last end c.last_shape t,
       )
 
   as-whole : Ends (after_links (at img s NoChain) ls)
@@ -487,7 +487,7 @@ module _ (img : List ℕ) (s : Session) (whole buf : List ℕ) (f : Frame) (ls :
       h = f.header
 
       n : is_link h ≡ false
-      n = c.no-link
+      n = c.no_link
 
       none : ((l : Link) → IsLink h l → after_sending (at img s NoChain) l.command l.buffer ≡ at img s NoChain) → Ends (at img s NoChain)
           → Ends (after_links (at img s NoChain) ls)
@@ -498,7 +498,7 @@ module _ (img : List ℕ) (s : Session) (whole buf : List ℕ) (f : Frame) (ls :
           none (λ l x. sent-refused img s NoChain l.command l.buffer {r = r} (verdict-long img s (length l.buffer) x.long ∙ v)) (refused-ends {r = r} v)
       fit e Accepted v =
           let r : length {A = ℕ} [] + length (pieces ls) ≤ 1024 =
-          omega (arith, length-append (pieces ls) own, ap length c.all-data, all-length, (shape_facts whole (shape_of whole) f refl c.shape).few) in
+          omega (arith, length-append (pieces ls) own, ap length c.all_data, all-length, (shape_facts whole (shape_of whole) f refl c.shape).few) in
           let b = links-join img s h n v e ls NoChain c.links refl refl r in
           subst Ends (sym b.is) (joined-ends v e b.chain b.fits b.continues b.holds)
 

@@ -268,12 +268,12 @@ module _ (s : Session) (r : Rule) (m : Memᴰ r rules) where
   unfolding is_meant
   goes n h = (all_of_facts _ h).1.0
 
-  by-short : (x : ℕ) → is_meant s (Short x) (RecordFile r) ≡ true → rule_of (ByShort s.application x) ≡ Is r
+  by_short_id : (x : ℕ) → is_meant s (Short x) (RecordFile r) ≡ true → rule_of (ByShort s.application x) ≡ Is r
   unfolding is_short_of
-  by-short x h = ap₂ (λ (a y : ℕ). rule_of (ByShort a y)) (sym (home (Short x) h)) (sym (eqb-true _ _ (goes (Short x) h))) ∙ table.by-short
+  by_short_id x h = ap₂ (λ (a y : ℕ). rule_of (ByShort a y)) (sym (home (Short x) h)) (sym (eqb-true _ _ (goes (Short x) h))) ∙ table.by_short_id
 
-  by-id : (i : ℕ) → r.application ≡ s.application → r.id ≡ i → rule_of (ById s.application i) ≡ Is r
-  by-id i e z = ap₂ (λ (a y : ℕ). rule_of (ById a y)) (sym e) (sym z) ∙ table.by-id
+  by_file_id : (i : ℕ) → r.application ≡ s.application → r.id ≡ i → rule_of (ById s.application i) ≡ Is r
+  by_file_id i e z = ap₂ (λ (a y : ℕ). rule_of (ById a y)) (sym e) (sym z) ∙ table.by_file_id
 
   in-application : r.application ≡ s.application → eqb s.application 0 ≡ false
   in-application e = by_cases (eqb s.application 0) (λ z. let y : s.application ≡ 0 = eqb-true s.application 0 z in let l = table.first in absurd (omega (arith, e, y, l))) (λ z. z)
@@ -289,12 +289,12 @@ module _ (s : Session) (r : Rule) (m : Memᴰ r rules) where
   module _ (img : List ℕ) (fits : session_fits img s ≡ true) (x : Access) (right : may_record s x r ≡ true) where
     pub meant_resolved : (n : Named) → is_meant s n (RecordFile r) ≡ true → resolve_record img s x n ≡ RecordAt r
     unfolding resolve_record file_meant by_short by_id id_of is_current
-    meant_resolved (Short y) h = simp (in-application (home (Short y) h), by-short y h, stands img fits (home (Short y) h), right)
-    meant_resolved (Id i) h = simp (in-application (home (Id i) h), by-id i (home (Id i) h) (eqb-true _ _ (goes (Id i) h)), stands img fits (home (Id i) h), right)
+    meant_resolved (Short y) h = simp (in-application (home (Short y) h), by_short_id y h, stands img fits (home (Short y) h), right)
+    meant_resolved (Id i) h = simp (in-application (home (Id i) h), by_file_id i (home (Id i) h) (eqb-true _ _ (goes (Id i) h)), stands img fits (home (Id i) h), right)
     meant_resolved Current h = at s.place (home Current h) (goes Current h)
       where
         on : (i : ℕ) → r.application ≡ s.application → eqb i r.id ≡ true → record_by s x (meant_by (by_id img s.application i)) ≡ RecordAt r
-        on i e c = simp (in-application e, by-id i e (sym (eqb-true i r.id c)), stands img fits e, right)
+        on i e c = simp (in-application e, by_file_id i e (sym (eqb-true i r.id c)), stands img fits e, right)
 
         at : (p : Place) → r.application ≡ s.application → is_current p r.id ≡ true → record_by s x (meant_at img s.application p) ≡ RecordAt r
         at Nowhere e c = false-true c
@@ -308,7 +308,7 @@ module _ (s : Session) (x : ℕ) where
   IsMeant f = is_meant s (Short x) f ≡ true
 
   same-rule : (q r : Rule) → Memᴰ q rules → Memᴰ r rules → IsMeant (RecordFile q) → IsMeant (RecordFile r) → Is q ≡ Is r
-  same-rule q r a b h k = sym (by-short s q a x h) ∙ by-short s r b x k
+  same-rule q r a b h k = sym (by_short_id s q a x h) ∙ by_short_id s r b x k
 
   -- a transparent file has a short id in the master file only, and no record file is there
   master : (t : Transparent) → IsMeant (TransparentFile t) → s.application ≡ 0
@@ -411,7 +411,7 @@ unfolding is_meant_by_p2 id_of
 one-meant s x q r a b =
     by_cases (eqb x 0)
     (λ e. simp e (λ g h. let i = one-current s.place q.id r.id (goes s q a Current g) (goes s r b Current h) in
-    sym (by-id s q a q.id (home s q a Current g) refl) ∙ ap (λ (y : ℕ). rule_of (ById s.application y)) i ∙ by-id s r b r.id (home s r b Current h) refl))
+    sym (by_file_id s q a q.id (home s q a Current g) refl) ∙ ap (λ (y : ℕ). rule_of (ById s.application y)) i ∙ by_file_id s r b r.id (home s r b Current h) refl))
     (λ e. simp e (same-rule s x q r a b))
 
 pub kind-meant : (s : Session) (x : ℕ) (r : Rule) → Memᴰ r rules → is_meant_by_p2 s x (RecordFile r) ≡ true → (k : ℕ) → is_meant_kind s x k ≡ eqb r.kind k

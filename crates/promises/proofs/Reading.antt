@@ -114,7 +114,7 @@ module _ (img : List ℕ) (s : Session) (ch : Chain) (cmd buf : List ℕ) (f : F
         meant = p2-meant s (f.header.p2 / 8) (RecordFile r) ∙ record_meant img s Read (or_current (f.header.p2 / 8)) r h.at;
         permitted = record_permitted img s Read (or_current (f.header.p2 / 8)) r h.at;
         by_number = λ z. (record-named s r f.header.p1 a h.first).0 z;
-        by-current = λ z. (record-named s r f.header.p1 a h.first).1 z;
+        by_current = λ z. (record-named s r f.header.p1 a h.first).1 z;
         low = l;
         high = omega arith;
         one = λ t. let u : b ≡ a = h.last ∙ ap (λ (x : Bool). if_else x a (count (body img r.kind))) (eq-eqb _ _ t) in

@@ -104,9 +104,9 @@ module _ (f s t buf : List ℕ) where
       fault-result : result ≡ extension_fault_number w * 4294967296
       fault-result = result-told ∙ rw (chain_fault f s t bf bs bt w x) refl
 
-      fault-kept : drop 60 new ≡ drop 60 buf
+      fault_kept : drop 60 new ≡ drop 60 buf
       unfolding chain_data
-      fault-kept = (written {d = replicate 60 0} (rw (chain_fault f s t bf bs bt w x) (simp (not-whole w))) refl).1
+      fault_kept = (written {d = replicate 60 0} (rw (chain_fault f s t bf bs bt w x) (simp (not-whole w))) refl).1
 
   -- ---- three cases: the buffer is too short, the runs are in order, one has a fault
 
@@ -127,23 +127,23 @@ module _ (f s t buf : List ℕ) where
     told : RightsC f s t buf result new
     told =
         record {
-          short-complete = result-short;
-          short-sound = λ e. by_runs (λ h. h)
+          short_complete = result-short;
+          short_sound = λ e. by_runs (λ h. h)
               (λ h a b c x. let r = ap refusal_in (whole-result h a b c x) in absurd (one_not_zero (sym e ∙ r)))
               (λ h w x. let r = ap refusal_in (fault-result h bf bs bt w x) ∙ refusal_of (extension_fault_number w) in let n = (fault_range w).0 in absurd (omega arith));
-          short-kept = into-short;
-          runs-complete = whole-result;
-          runs-sound = λ e. by_runs (λ h. let r = result-short h in absurd (omega arith)) (λ h a b c x. (a, b, c, x))
+          short_kept = into-short;
+          runs_complete = whole-result;
+          runs_sound = λ e. by_runs (λ h. let r = result-short h in absurd (omega arith)) (λ h a b c x. (a, b, c, x))
               (λ h w x. let r = fault-result h bf bs bt w x in let n = (fault_range w).0 in absurd (omega arith));
           given = λ e a b c x. by_runs (λ h. let r = result-short h in absurd (omega arith)) (λ h _ _ _ _. (whole-written h a b c x).0)
               (λ h w y. let r = fault-result h bf bs bt w y in let n = (fault_range w).0 in absurd (omega arith));
-          malformed-complete = λ h x. fault-result h bf bs bt Malformed x;
-          twice-complete = λ h x. fault-result h bf bs bt Twice x;
-          fault-sound = λ h e. by_runs {P = Faults} (λ g. absurd (omega arith)) (λ g a b c x. let r = whole-result h a b c x in absurd (omega arith))
+          malformed_complete = λ h x. fault-result h bf bs bt Malformed x;
+          twice_complete = λ h x. fault-result h bf bs bt Twice x;
+          fault_sound = λ h e. by_runs {P = Faults} (λ g. absurd (omega arith)) (λ g a b c x. let r = whole-result h a b c x in absurd (omega arith))
               (λ g w x. faults h w x);
-          fault-zeros = zeros-written;
-          rest-kept = by_runs (λ h. ap (drop 60) (into-short h)) (λ h a b c x. (whole-written h a b c x).1) (λ h w x. fault-kept h bf bs bt w x);
-          size-kept = by_runs (λ h. ap length (into-short h)) (λ h a b c x. ap length (into-told h) ∙ length-put buf 0 (chain_data (runs_on f s t)))
+          fault_zeros = zeros-written;
+          rest_kept = by_runs (λ h. ap (drop 60) (into-short h)) (λ h a b c x. (whole-written h a b c x).1) (λ h w x. fault_kept h bf bs bt w x);
+          size_kept = by_runs (λ h. ap length (into-short h)) (λ h a b c x. ap length (into-told h) ∙ length-put buf 0 (chain_data (runs_on f s t)))
               (λ h w x. ap length (into-told h) ∙ length-put buf 0 (chain_data (runs_on f s t)));
         }
 
@@ -204,7 +204,7 @@ pub c_rights-refused : CRightsRefused
 c_rights-refused f s t buf ses e g =
     let c = take 60 (read_rights_into f s t buf) in
     let z = zero-rights c (left_by f s t buf e) in
-    record { zero = none_written c z ses g; no-right = rw (none_read c z ses g) none_allowed }
+    record { zero = none_written c z ses g; no_right = rw (none_read c z ses g) none_allowed }
 
 -- ---- an opening with what runs without a fault give
 
@@ -222,20 +222,20 @@ certificate_for es s c k w e =
     let l = run-filled es s w in
     let p = three_parts (flag_for Travel es + flag_for Visa es + flag_for Biometrics es) (rights_for Travel es) (rights_for Visa es) (rights_for Biometrics es) (l Travel) (l Visa) in
     rw (certificate_in c (certificate_data es) k e) (record {
-      travel-flag = simp and-true (flag_is Travel es);
-      visa-flag = simp and-true (flag_is Visa es);
-      biometrics-flag = simp and-true (flag_is Biometrics es);
-      travel-rights = p.0;
-      visa-rights = p.1;
-      biometrics-rights = p.2;
+      travel_flag = simp and-true (flag_is Travel es);
+      visa_flag = simp and-true (flag_is Visa es);
+      biometrics_flag = simp and-true (flag_is Biometrics es);
+      travel_rights = p.0;
+      visa_rights = p.1;
+      biometrics_rights = p.2;
     })
 
 pub c_rights-read : CRightsRead
 c_rights-read f s t buf a b c h x =
     let w = (whole-written f s t buf h a b c x).0 in
-    let p = parts_of (certificate_data a) (certificate_data b) (certificate_data c) (certificate-length a f x.is-first) (certificate-length b s x.is-second) (certificate-length c t x.is-third) in
+    let p = parts_of (certificate_data a) (certificate_data b) (certificate_data c) (certificate-length a f x.is_first) (certificate-length b s x.is_second) (certificate-length c t x.is_third) in
     rw w (
-      certificate_for a f (certificate_data a ++ (certificate_data b ++ certificate_data c)) 0 x.is-first p.0,
-      certificate_for b s (certificate_data a ++ (certificate_data b ++ certificate_data c)) 1 x.is-second p.1,
-      certificate_for c t (certificate_data a ++ (certificate_data b ++ certificate_data c)) 2 x.is-third p.2,
+      certificate_for a f (certificate_data a ++ (certificate_data b ++ certificate_data c)) 0 x.is_first p.0,
+      certificate_for b s (certificate_data a ++ (certificate_data b ++ certificate_data c)) 1 x.is_second p.1,
+      certificate_for c t (certificate_data a ++ (certificate_data b ++ certificate_data c)) 2 x.is_third p.2,
     )

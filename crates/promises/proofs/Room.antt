@@ -202,14 +202,14 @@ module _ {img new : List ℕ} (t : Torn img new) (o : well_formed img ≡ true) 
   step_by-same Accepted = subst (λ (x : Action). Same (done (decide img s ch cmd) img s d buf) (done x new s d buf)) (sym decide-same) (done-same (decide img s ch cmd) from)
   step_by-same (Refused r) = (refl, refl)
 
-  verdict-same : (n : ℕ) → verdict_on new s ch n ≡ verdict_on img s ch n
+  verdict_same : (n : ℕ) → verdict_on new s ch n ≡ verdict_on img s ch n
   unfolding verdict
-  verdict-same n = rw (o, o', session-same t s) refl
+  verdict_same n = rw (o, o', session-same t s) refl
 
   step_same : Same (step img s ch cmd buf) (step new s ch cmd buf)
   unfolding step
   step_same =
-      subst (λ (v : Verdict). Same (step_by (verdict_on img s ch (length buf)) img s ch cmd buf) (step_by v new s ch cmd buf)) (sym (verdict-same (length buf)))
+      subst (λ (v : Verdict). Same (step_by (verdict_on img s ch (length buf)) img s ch cmd buf) (step_by v new s ch cmd buf)) (sym (verdict_same (length buf)))
       (step_by-same (verdict_on img s ch (length buf)))
 
 -- ---- a cut before the last store leaves such an image
@@ -255,9 +255,9 @@ room-used img s ch cmd n t c next buf f w l z p =
     let same = step_same (torn img s ch cmd n l) w left.well t c next buf f z p in
     let new = (cut img s ch cmd n).image in
     record {
-      answer-same = same.0;
-      buffer-same = same.1;
-      lists-same = λ k b. (call_grown new (Command t c next buf) left.well).records k b
+      answer_same = same.0;
+      buffer_same = same.1;
+      lists_same = λ k b. (call_grown new (Command t c next buf) left.well).records k b
           ∙ ap₂ (λ (x : List (List ℕ)) (a : Answer). x ++ added_by k t c next a.status (shape_of next)) ((left.before l).records k b) same.0
           ∙ sym ((call_grown img (Command t c next buf) w).records k b);
     }

@@ -49,7 +49,7 @@ use Rattle.promises.proofs.Whole.{data_bytes, Way, stops, links, whole, way}
 said : (w : ℕ) (dat : List ℕ) (s : Session) (img buf : List ℕ) → 2050 ≤ length buf → length dat ≤ 2048 → Memᴰ w words → Answered (says w dat s img buf)
 unfolding says
 said w dat s img buf r h e =
-    record { known = e; word-counted = omega arith; data-bounded = omega arith; word-last = last }
+    record { known = e; word_counted = omega arith; data_bounded = omega arith; word_last = last }
   where
     long : length (dat ++ word w) ≡ length dat + 2
     long = unfold word in length-append dat (word w)
@@ -126,7 +126,7 @@ pub step_small : (img : List ℕ) (s : Session) (ch : Chain) (cmd buf : List ℕ
 step_small img s ch cmd buf a b =
     let x = (step img s ch cmd buf).answer in
     by_cases (eqb (verdict_number x.verdict) 0)
-    (λ y. let h = gets_word img s ch cmd buf a b (eqb-true _ _ y) in (h.data-bounded, word-most _ h.known))
+    (λ y. let h = gets_word img s ch cmd buf a b (eqb-true _ _ y) in (h.data_bounded, word-most _ h.known))
     (λ n. let z = eqb-false (verdict_number x.verdict) 0 n in
     let p : 1 ≤ verdict_number x.verdict = omega (arith, z) in
     let h = (step_kept img s ch cmd buf).refused p in (omega (arith, h.0), omega (arith, h.1)))

@@ -153,14 +153,14 @@ module _ (rs : List (List ℕ)) (x : SearchFields) (some : 1 ≤ length x.text) 
       (λ e. subst (Ascending 0) (sym (first-listed e)) (first-ascending 0 found u))
       (λ e. subst (Ascending 0) (sym (all_listed e)) (up_ascending 0 found u))
 
-  listed-sound : (n : ℕ) → Memᴰ n numbers → Matches rs x n
-  listed-sound n m =
+  listed_sound : (n : ℕ) → Memᴰ n numbers → Matches rs x n
+  listed_sound n m =
       by_cases one
       (λ e. matches n (first_of found n (subst (λ (l : List ℕ). Memᴰ n l) (first-listed e) m)))
       (λ e. matches n (subst (λ (l : List ℕ). Memᴰ n l) (all_listed e) m))
 
-  listed-complete : x.mode ≡ 0x00 → (n : ℕ) → Matches rs x n → Memᴰ n numbers
-  listed-complete e n h = subst (λ (l : List ℕ). Memᴰ n l) (sym (all_listed (ap (λ (k : ℕ). eqb k 0x30) e))) (found_all n h)
+  listed_complete : x.mode ≡ 0x00 → (n : ℕ) → Matches rs x n → Memᴰ n numbers
+  listed_complete e n h = subst (λ (l : List ℕ). Memᴰ n l) (sym (all_listed (ap (λ (k : ℕ). eqb k 0x30) e))) (found_all n h)
 
   first : x.mode ≡ 0x30 → (n : ℕ) → Matches rs x n → (length numbers ≡ 1) × (get_or numbers 0 0 ≤ n)
   first e n h = go found refl (found_all n h)
@@ -195,13 +195,13 @@ module _ (img : List ℕ) (s : Session) (d buf : List ℕ) (r : Rule) (q : Searc
   here = records_of img r.kind
 
   abbrev some : 1 ≤ length x.text
-  some = w.sized.text-size
+  some = w.sized.text_size
 
   abbrev out : Outcome
   out = searched img s d buf r q ne
 
   pub file-short : length (file_in d q) ≤ 2
-  file-short = let l = ap length w.file-placed.is in omega (arith, w.sized.file-size.1)
+  file-short = let l = ap length w.file_placed.is in omega (arith, w.sized.file_size.1)
 
   -- what is listed and replied, in the words of the fields
   pub hits_are : search_hits here d q ≡ numbers here x some
@@ -210,7 +210,7 @@ module _ (img : List ℕ) (s : Session) (d buf : List ℕ) (r : Rule) (q : Searc
 
   pub reply-is : search_reply here d q ≡ found_data x.file (numbers here x some)
   unfolding search_reply
-  reply-is = reply-whole (file_in d q) (search_hits here d q) (omega (arith, file-short)) ∙ ap₂ found_data w.file-placed.is hits_are
+  reply-is = reply-whole (file_in d q) (search_hits here d q) (omega (arith, file-short)) ∙ ap₂ found_data w.file_placed.is hits_are
 
   -- which of the three answers
   fits : (b : Bool) → leb (length (found_data x.file (numbers here x some))) ne ≡ b → leb (length (search_reply here d q)) ne ≡ b
@@ -245,12 +245,12 @@ module _ (img : List ℕ) (s : Session) (d buf : List ℕ) (r : Rule) (q : Searc
       record {
         numbers = numbers here x some;
         ascending = ascends here x some;
-        listed-sound = listed-sound here x some;
-        listed-complete = listed-complete here x some;
+        listed_sound = listed_sound here x some;
+        listed_complete = listed_complete here x some;
         first = first here x some;
         reply = λ n m f. replied (listed-some here x some n m) f;
-        none-complete = λ f. nothing (listed-none here x some f);
-        none-sound = λ t n m. something (listed-some here x some n m) t;
+        none_complete = λ f. nothing (listed-none here x some f);
+        none_sound = λ t n m. something (listed-some here x some n m) t;
       }
 
 pub leaves-none_out : LeavesNoneOut

@@ -138,7 +138,7 @@ module _ (img : List ℕ) (s : Session) (buf : List ℕ) (f : Frame) (x : Search
 
 module _ (img : List ℕ) (s : Session) (ch : Chain) (cmd other buf : List ℕ) (f : Frame) (x : SearchFields) (y : ℕ) (n : y % 8 ≡ 0 → ⊥) (c : SearchCommand ch cmd f (with_file x (y ∷ []))) (d : SearchCommand ch other f (with_file x (8 * y ∷ []))) where
   abbrev some : 1 ≤ length x.text
-  some = c.sized.text-size
+  some = c.sized.text_size
 
   answers-alike : verdict_on img s ch (length buf) ≡ Accepted → (z : ResolvedRecord) → resolve_record img s Read (search_named (y ∷ [])) ≡ z → Alike y (8 * y) (answers img s buf f x some z y) (answers img s buf f x some z (8 * y))
   answers-alike a (RecordStop k) e = word_alike y (8 * y) img s buf k (stops img s buf f x some ch a y cmd c k e)

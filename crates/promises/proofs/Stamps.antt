@@ -19,7 +19,7 @@ use Rattle.objects_stamp.specs.FirstFault.{stamp_finding}
 use Rattle.objects_stamp.specs.Faults.{StampFaults, NoFault, FirstOf, reason_number}
 use Rattle.objects_stamp.specs.Read.{finding_number, finding_place, read_stamp, read_stamp_into}
 use Rattle.objects_stamp.proofs.First.{IsFirst}
-use Rattle.objects_stamp.proofs.Stamps.{stamp-sound, stamp-complete, stamp_unique, stamp_most, stamp_first, stamp_only, stamp_near}
+use Rattle.objects_stamp.proofs.Stamps.{stamp_sound, stamp_complete, stamp_unique, stamp_most, stamp_first, stamp_only, stamp_near}
 use Rattle.objects_stamp.proofs.Writing.{read_short, into_stamp, into_kept, places-length}
 use Rattle.objects_stamp.proofs.Worked.{fullest, full_bytes, full_length, full_right}
 use Rattle.malquindo.specs.Face.{stamp_result}
@@ -67,10 +67,10 @@ module _ (s ps : List ℕ) where
     -- ---- the stamp
 
     right_of : (x : Stamp) → IsStamp s x → stamp_finding s ≡ Right
-    right_of x i = rw i.written (stamp-complete x i.lawful)
+    right_of x i = rw i.written (stamp_complete x i.lawful)
 
     stamp-of : stamp_finding s ≡ Right → (x : Stamp) × IsStamp s x
-    stamp-of e = let x = stamp-sound s b e in (x.0, record { lawful = x.1; written = x.2 })
+    stamp-of e = let x = stamp_sound s b e in (x.0, record { lawful = x.1; written = x.2 })
 
     places_of : 26 ≤ length ps → (x : Stamp) → IsStamp s x → take 26 (read_stamp_into s ps) ≡ stamp_places x
     places_of h x i =
@@ -123,18 +123,18 @@ module _ (s ps : List ℕ) where
 
     reads : StampC s ps (stamp_result (read_stamp s ps)) (read_stamp_into s ps)
     reads = record {
-      short-complete = result-short;
-      short-sound = short-told;
-      stamp-complete = λ h x i. result-right h (right_of x i);
-      stamp-sound = λ z. stamp-of (zero_right z).1;
-      right-complete = λ h x. result-right h (wrong-none x);
-      right-sound = λ z. none-wrong (zero_right z).1;
+      short_complete = result-short;
+      short_sound = short-told;
+      stamp_complete = λ h x i. result-right h (right_of x i);
+      stamp_sound = λ z. stamp-of (zero_right z).1;
+      right_complete = λ h x. result-right h (wrong-none x);
+      right_sound = λ z. none-wrong (zero_right z).1;
       places = λ z. places_of (zero_right z).0;
-      fault-complete = λ h w at x. result-fault h (wrong-one w at x);
-      fault-sound = λ h z. by_answer (λ t. absurd (omega arith)) (λ t e. let r = result-right h e in absurd (omega arith)) told;
-      fault-kept = kept;
-      rest-kept = (into_kept ps s).0;
-      size-kept = (into_kept ps s).1;
+      fault_complete = λ h w at x. result-fault h (wrong-one w at x);
+      fault_sound = λ h z. by_answer (λ t. absurd (omega arith)) (λ t e. let r = result-right h e in absurd (omega arith)) told;
+      fault_kept = kept;
+      rest_kept = (into_kept ps s).0;
+      size_kept = (into_kept ps s).1;
     }
 
 pub c_stamp_reads : CStampReads

@@ -104,13 +104,13 @@ module _ (ch : Chain) (cmd : List ℕ) (f : Frame) where
       ins : h.ins ≡ i
       ins = ap (λ (x : Header). x.ins) header-same ∙ (pair_facts f c i p).1
 
-      no-link : is_link h ≡ false
+      no_link : is_link h ≡ false
       unfolding is_link
-      no-link = ap (λ (x : ℕ). eqb (x / 16 % 2) 1) cla ∙ unlinked
+      no_link = ap (λ (x : ℕ). eqb (x / 16 % 2) 1) cla ∙ unlinked
 
       same_class : class_of h ≡ c
       unfolding class_of
-      same_class = rw no-link cla
+      same_class = rw no_link cla
 
       head : head_status ch h ≡ normal
       unfolding head_status in_order
@@ -118,7 +118,7 @@ module _ (ch : Chain) (cmd : List ℕ) (f : Frame) where
 
       turns : turn ch own ≡ Goes
       unfolding turn last_turn in_order join_fits
-      turns = rw no-link (by_cases (is_amid ch) (λ t. rw t (simp (head, le-leb (length (so_far ch) + own.lc) 1024 by.few))) (λ t. rw t refl))
+      turns = rw no_link (by_cases (is_amid ch) (λ t. rw t (simp (head, le-leb (length (so_far ch) + own.lc) 1024 by.few))) (λ t. rw t refl))
 
       pub class_decided : (img : List ℕ) (s : Session) → decide img s ch cmd ≡ by_class img s f (data_of ch cmd)
       unfolding decide
@@ -140,7 +140,7 @@ pub record LinkWay (img : List ℕ) (s : Session) (ch : Chain) (cmd : List ℕ) 
 
 pub record WholeWay (img : List ℕ) (s : Session) (ch : Chain) (cmd : List ℕ) (f : Frame) : Type 0 where
   pub whole : whole_of ch cmd ≡ Good f
-  pub no-link : is_link f.header ≡ false
+  pub no_link : is_link f.header ≡ false
   pub action : decide img s ch cmd ≡ by_class img s f (data_of ch cmd)
   pub from : From img s f (data_of ch cmd) (decide img s ch cmd)
   pub worded : Worded (decide img s ch cmd)
@@ -184,7 +184,7 @@ way img s ch cmd = go (shape_of cmd) refl
         whole (whole_frame ch f)
         (record {
           whole = w;
-          no-link = x.whole;
+          no_link = x.whole;
           action = a;
           from = subst (From img s (whole_frame ch f) (data_of ch cmd)) (sym a) (class-from img s (whole_frame ch f) (data_of ch cmd) (data_length ch cmd (whole_frame ch f) w));
           worded = subst Worded (sym a) (class-word img s (whole_frame ch f) (data_of ch cmd));

@@ -28,10 +28,10 @@ use Rattle.promises.specs.Promises.{data_in}
 pub record EvenRead (s : Session) (ch : Chain) (cmd : List ℕ) (f : Frame) (t : Transparent) (offset : ℕ) : Type 0 where
   pub shape : whole_of ch cmd ≡ Good f
   pub pair : is_pair f 0x00 0xB0 ≡ true
-  pub no-lc : f.lc ≡ 0
+  pub no_lc : f.lc ≡ 0
   pub le : 1 ≤ f.le
-  pub of-current : f.header.p1 < 0x80 → (is_meant s Current (TransparentFile t) ≡ true) × (offset ≡ p1p2 f)
-  pub of-short : 0x80 ≤ f.header.p1
+  pub of_current : f.header.p1 < 0x80 → (is_meant s Current (TransparentFile t) ≡ true) × (offset ≡ p1p2 f)
+  pub of_short : 0x80 ≤ f.header.p1
       → (f.header.p1 / 0x20 ≡ 4) × (is_meant s (Short (f.header.p1 % 0x20)) (TransparentFile t) ≡ true) × (offset ≡ f.header.p2)
 
 -- cmd is a READ BINARY B1 from `offset` of the transparent file t on: P1-P2 is the file's id, and 0000 means the current file [C25] [C26]
@@ -40,12 +40,12 @@ pub record OddRead (s : Session) (ch : Chain) (cmd : List ℕ) (f : Frame) (t : 
   pub pair : is_pair f 0x00 0xB1 ≡ true
   pub lc : 1 ≤ f.lc
   pub le : 1 ≤ f.le
-  pub of-current : p1p2 f ≡ 0 → is_meant s Current (TransparentFile t) ≡ true
-  pub of-id : (p1p2 f ≡ 0 → ⊥) → is_meant s (Id (p1p2 f)) (TransparentFile t) ≡ true
+  pub of_current : p1p2 f ≡ 0 → is_meant s Current (TransparentFile t) ≡ true
+  pub of_id : (p1p2 f ≡ 0 → ⊥) → is_meant s (Id (p1p2 f)) (TransparentFile t) ≡ true
   pub value : List ℕ
   pub asks : data_of ch cmd ≡ offset_data value
   pub size : OffsetSize value
-  pub offset-is : offset ≡ big value
+  pub offset_is : offset ≡ big value
 
 -- o is the outcome of a B0 and p that of a B1 with this Ne, from the same place of the same file on [C25]
 pub record SameRead (ne : ℕ) (o p : Outcome) : Type 0 where

@@ -22,8 +22,8 @@ file_length_in r = r % 4294967296
 -- what the result r of `malquindo_file` tells of the file of kind k [X11]
 pub record FileC (img : List ℕ) (k r : ℕ) : Type 0 where
   -- 0 exactly where the file is not there, or the image is not well formed
-  pub there-complete : well_formed img ≡ true → has img k ≡ true → 1 ≤ r
-  pub there-sound : 1 ≤ r → (well_formed img ≡ true) × (has img k ≡ true)
+  pub there_complete : well_formed img ≡ true → has img k ≡ true → 1 ≤ r
+  pub there_sound : 1 ≤ r → (well_formed img ≡ true) × (has img k ≡ true)
   -- place and length are those of the section of kind k, within the image, and not of bytes elsewhere that look like it
   pub stands : 1 ≤ r → find img k ≡ At (file_place_in r) (file_length_in r)
   pub within : file_place_in r + file_length_in r ≤ length img

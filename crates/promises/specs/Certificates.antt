@@ -43,22 +43,22 @@ pub record StandsC (xs : List ℕ) (n r : ℕ) : Type 0 where
 -- what the result r of `malquindo_certificate` tells, for any two bodies and the reference n [P2] [P3] [P4] [P6]
 pub record CertificateC (card desk : List ℕ) (n r : ℕ) : Type 0 where
   -- 9 exactly where one of the two is not well formed, with longest record 929 and most records 254; there is no other refusal
-  pub refused-complete : (body_ok 929 254 card && body_ok 929 254 desk) ≡ false → r ≡ 9 * 4294967296
-  pub refused-sound : 1 ≤ refusal_in r → (body_ok 929 254 card && body_ok 929 254 desk) ≡ false
+  pub refused_complete : (body_ok 929 254 card && body_ok 929 254 desk) ≡ false → r ≡ 9 * 4294967296
+  pub refused_sound : 1 ≤ refusal_in r → (body_ok 929 254 card && body_ok 929 254 desk) ≡ false
   -- the card's, the desk's, or neither
-  pub which-known : Memᴰ (which_in r) (0 ∷ 1 ∷ 2 ∷ [])
+  pub which_known : Memᴰ (which_in r) (0 ∷ 1 ∷ 2 ∷ [])
   -- the card's exactly where the card's body has the number
-  pub card-complete : refusal_in r ≡ 0 → IsNumber card n → which_in r ≡ 1
-  pub card-sound : which_in r ≡ 1 → StandsC card n r
+  pub card_complete : refusal_in r ≡ 0 → IsNumber card n → which_in r ≡ 1
+  pub card_sound : which_in r ≡ 1 → StandsC card n r
   -- the desk's exactly where the desk's body has it and the card's has not
-  pub desk-complete : refusal_in r ≡ 0 → (IsNumber card n → ⊥) → IsNumber desk n → which_in r ≡ 2
-  pub desk-sound : which_in r ≡ 2 → (IsNumber card n → ⊥) × StandsC desk n r
+  pub desk_complete : refusal_in r ≡ 0 → (IsNumber card n → ⊥) → IsNumber desk n → which_in r ≡ 2
+  pub desk_sound : which_in r ≡ 2 → (IsNumber card n → ⊥) × StandsC desk n r
   -- missing exactly where neither has it
-  pub missing-complete : refusal_in r ≡ 0 → (IsNumber card n → ⊥) → (IsNumber desk n → ⊥) → r ≡ 0
-  pub missing-sound : r ≡ 0 → (IsNumber card n → ⊥) × (IsNumber desk n → ⊥)
+  pub missing_complete : refusal_in r ≡ 0 → (IsNumber card n → ⊥) → (IsNumber desk n → ⊥) → r ≡ 0
+  pub missing_sound : r ≡ 0 → (IsNumber card n → ⊥) × (IsNumber desk n → ⊥)
   -- 00 and FF are always missing
-  pub zero-missing : refusal_in r ≡ 0 → n ≡ 0x00 → r ≡ 0
-  pub ones-missing : refusal_in r ≡ 0 → n ≡ 0xFF → r ≡ 0
+  pub zero_missing : refusal_in r ≡ 0 → n ≡ 0x00 → r ≡ 0
+  pub ones_missing : refusal_in r ≡ 0 → n ≡ 0xFF → r ≡ 0
 
 -- [X12]
 abbrev pub CCertificate : Type 0
@@ -77,8 +77,8 @@ certificate_on img desk n = certificate_result (located (card_body img) desk n)
 -- a reference that finds a certificate on the card finds, after any further calls, the same certificate there, whatever well-formed copy
 -- the desk has by then: the same number is answered, and the same bytes stand there, those of the history [P7]
 pub record CertificateKept (img : List ℕ) (calls later : List CCall) (desk other : List ℕ) (n : ℕ) : Type 0 where
-  pub result-kept : certificate_on (after_c img (calls ++ later)) other n ≡ certificate_on (after_c img calls) desk n
-  pub bytes-kept : certificate_bytes (card_body (after_c img (calls ++ later))) (certificate_on (after_c img calls) desk n)
+  pub result_kept : certificate_on (after_c img (calls ++ later)) other n ≡ certificate_on (after_c img calls) desk n
+  pub bytes_kept : certificate_bytes (card_body (after_c img (calls ++ later))) (certificate_on (after_c img calls) desk n)
       ≡ certificate_bytes (card_body (after_c img calls)) (certificate_on (after_c img calls) desk n)
   pub history : certificate_bytes (card_body (after_c img calls)) (certificate_on (after_c img calls) desk n) ≡ nth (history_c 0x011A img calls) n
 

@@ -31,17 +31,17 @@ use Rattle.promises.specs.Linked.{refusal_in, cut_stores_in}
 -- beside the whole command with the response buffer buf, which is long enough [CU2] [CU3] [CU5]
 pub record StoresThere (img : List ℕ) (s : Session) (ch : Chain) (cmd buf : List ℕ) (c : CutOutcome) : Type 0 where
   -- a cut is refused as a command is whose response buffer is long enough: with 2, with 4 or not at all
-  pub verdict-same : c.answer.verdict ≡ verdict_on img s ch 2050
+  pub verdict_same : c.answer.verdict ≡ verdict_on img s ch 2050
   pub number : Memᴰ (verdict_number c.answer.verdict) (0 ∷ 2 ∷ 4 ∷ [])
   -- none where the whole command is not answered 9000
-  pub none-refused : ((step img s ch cmd buf).answer.status ≡ 0x9000 → ⊥) → c.answer.stores ≡ 0
+  pub none_refused : ((step img s ch cmd buf).answer.status ≡ 0x9000 → ⊥) → c.answer.stores ≡ 0
   -- an append has four more than its data has bytes, ACTIVATE one, no other command any
   pub append : (f : Frame) → whole_of ch cmd ≡ Good f → is_pair f 0x00 0xE2 ≡ true → (step img s ch cmd buf).answer.status ≡ 0x9000 → c.answer.stores ≡ length (data_of ch cmd) + 4
   pub activate : (f : Frame) → whole_of ch cmd ≡ Good f → is_pair f 0x00 0x44 ≡ true → (step img s ch cmd buf).answer.status ≡ 0x9000 → c.answer.stores ≡ 1
   -- a link but the last has another CLA
   pub none_other : (f : Frame) → shape_of cmd ≡ Good f → is_pair f 0x00 0xE2 ≡ false → is_pair f 0x00 0x44 ≡ false → c.answer.stores ≡ 0
   -- without stores the image stays
-  pub image-kept : c.answer.stores ≡ 0 → c.image ≡ img
+  pub image_kept : c.answer.stores ≡ 0 → c.image ≡ img
 
 -- [CU5] [CU6]
 abbrev pub CutStores : Type 0
@@ -101,7 +101,7 @@ pub record ActivateCut (img : List ℕ) (s : Session) (ch : Chain) (cmd : List �
   pub start : ℕ
   pub room : ℕ
   -- the current file, where it stands
-  pub of-current : WritesTo img s Current number
+  pub of_current : WritesTo img s Current number
   pub stands : find img (biometrics_kind number) ≡ At start room
   pub stored : (cut img s ch cmd n).image ≡ made (take n (at start 1 ∷ [])) img
 
@@ -118,9 +118,9 @@ ActivateInOrder =
 
 -- an APPEND RECORD behind a cut gets the answer that it gets where there was no cut, and leaves the list that it leaves there [CU8]
 pub record NextAppend (o p : Outcome) : Type 0 where
-  pub answer-same : p.answer ≡ o.answer
-  pub buffer-same : p.buffer ≡ o.buffer
-  pub lists-same : (k : ℕ) → is_biometrics k ≡ false → records_of p.image k ≡ records_of o.image k
+  pub answer_same : p.answer ≡ o.answer
+  pub buffer_same : p.buffer ≡ o.buffer
+  pub lists_same : (k : ℕ) → is_biometrics k ≡ false → records_of p.image k ≡ records_of o.image k
 
 -- [CU8]
 abbrev pub RoomUsed : Type 0

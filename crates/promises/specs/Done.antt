@@ -77,13 +77,13 @@ pub record Updated (img : List ℕ) (s : Session) (ch : Chain) (cmd : List ℕ) 
   pub offset : List ℕ
   pub bytes : List ℕ
   -- P1-P2 is the file's id, and 0000 means the current file
-  pub of-current : p1p2 f ≡ 0 → WritesTo img s Current number
-  pub of-id : (p1p2 f ≡ 0 → ⊥) → WritesTo img s (Id (p1p2 f)) number
+  pub of_current : p1p2 f ≡ 0 → WritesTo img s Current number
+  pub of_id : (p1p2 f ≡ 0 → ⊥) → WritesTo img s (Id (p1p2 f)) number
   pub writes : data_of ch cmd ≡ update_data offset bytes
   pub sized : UpdateSized offset bytes
   pub stands : written_bytes (body o.image (biometrics_kind number)) ≡ splice (written_bytes (body img (biometrics_kind number))) (big offset) bytes
   pub larger : written (body o.image (biometrics_kind number)) ≡ max (written (body img (biometrics_kind number))) (big offset + length bytes)
-  pub state-kept : state (body o.image (biometrics_kind number)) ≡ state (body img (biometrics_kind number))
+  pub state_kept : state (body o.image (biometrics_kind number)) ≡ state (body img (biometrics_kind number))
   pub only : Only (biometrics_kind number) img o.image
   pub current : o.answer.session ≡ set_file s (TransparentFile (Biometrics number))
 
@@ -101,10 +101,10 @@ UpdateDone =
 -- the current file is Activated, and nothing else of it changes [C13] [A2]
 pub record Activated (img : List ℕ) (s : Session) (o : Outcome) : Type 0 where
   pub number : ℕ
-  pub of-current : WritesTo img s Current number
+  pub of_current : WritesTo img s Current number
   pub active : state (body o.image (biometrics_kind number)) ≡ 1
-  pub written-kept : written (body o.image (biometrics_kind number)) ≡ written (body img (biometrics_kind number))
-  pub content-kept : written_bytes (body o.image (biometrics_kind number)) ≡ written_bytes (body img (biometrics_kind number))
+  pub written_kept : written (body o.image (biometrics_kind number)) ≡ written (body img (biometrics_kind number))
+  pub content_kept : written_bytes (body o.image (biometrics_kind number)) ≡ written_bytes (body img (biometrics_kind number))
   pub only : Only (biometrics_kind number) img o.image
   pub current : o.answer.session ≡ s
 
@@ -119,11 +119,11 @@ pub record Fetched (img : List ℕ) (s : Session) (f : Frame) (o : Outcome) : Ty
   pub file : Transparent
   pub offset : ℕ
   -- P1-P2 is an offset in the current file; or P1 from 80 on has a short id in its five low bits, and P2 is the offset
-  pub of-current : f.header.p1 < 0x80 → Inspected img s Current (TransparentFile file) × (offset ≡ p1p2 f)
-  pub of-short : 0x80 ≤ f.header.p1 → Inspected img s (Short (f.header.p1 % 0x20)) (TransparentFile file) × (offset ≡ f.header.p2)
+  pub of_current : f.header.p1 < 0x80 → Inspected img s Current (TransparentFile file) × (offset ≡ p1p2 f)
+  pub of_short : 0x80 ≤ f.header.p1 → Inspected img s (Short (f.header.p1 % 0x20)) (TransparentFile file) × (offset ≡ f.header.p2)
   pub inside : offset < length (file_bytes img file)
   pub told : data_in o ≡ part (file_bytes img file) offset (min f.ne (min 2048 (length (file_bytes img file) - offset)))
-  pub image-kept : o.image ≡ img
+  pub image_kept : o.image ≡ img
   pub current : o.answer.session ≡ set_file s (TransparentFile file)
 
 -- [C13]
@@ -139,8 +139,8 @@ pub record FetchedOdd (img : List ℕ) (s : Session) (ch : Chain) (cmd : List �
   pub offset : List ℕ
   pub bytes : List ℕ
   -- P1-P2 is the file's id, and 0000 means the current file
-  pub of-current : p1p2 f ≡ 0 → Inspected img s Current (TransparentFile file)
-  pub of-id : (p1p2 f ≡ 0 → ⊥) → Inspected img s (Id (p1p2 f)) (TransparentFile file)
+  pub of_current : p1p2 f ≡ 0 → Inspected img s Current (TransparentFile file)
+  pub of_id : (p1p2 f ≡ 0 → ⊥) → Inspected img s (Id (p1p2 f)) (TransparentFile file)
   pub asks : data_of ch cmd ≡ offset_data offset
   pub size : OffsetSize offset
   pub told : data_in o ≡ tlv 0x53 bytes
@@ -151,7 +151,7 @@ pub record FetchedOdd (img : List ℕ) (s : Session) (ch : Chain) (cmd : List �
   -- one byte more would go past the file's end, or make the reply too long
   pub as_many : (more : List ℕ) → length bytes < length more → big offset + length more ≤ length (file_bytes img file)
       → min f.ne 2048 < length (tlv 0x53 more)
-  pub image-kept : o.image ≡ img
+  pub image_kept : o.image ≡ img
   pub current : o.answer.session ≡ set_file s (TransparentFile file)
 
 -- [C13]
@@ -168,14 +168,14 @@ ReadOddDone =
 -- by P1: an application that is there and whose flag is on; a file of the selected application, which then has no current record; the
 -- master file. An application, or the master file, has no current file at first. [C13] [L6] [L7]
 pub record Selected (img : List ℕ) (s : Session) (ch : Chain) (cmd : List ℕ) (f : Frame) (o : Outcome) : Type 0 where
-  pub p1-known : Memᴰ f.header.p1 (0x04 ∷ 0x02 ∷ 0x00 ∷ [])
-  pub by-aid : f.header.p1 ≡ 0x04
+  pub p1_known : Memᴰ f.header.p1 (0x04 ∷ 0x02 ∷ 0x00 ∷ [])
+  pub by_aid : f.header.p1 ≡ 0x04
       → (a : ℕ) × (aid_of (data_of ch cmd) ≡ Application a) × (present img a ≡ true) × (flagged s.rights a ≡ true) × (o.answer.session ≡ entered s a)
-  pub by-id : f.header.p1 ≡ 0x02
+  pub by_file_id : f.header.p1 ≡ 0x02
       → (file : File) × (length (data_of ch cmd) ≡ 2) × Inspected img s (Id (id_in (data_of ch cmd))) file × (o.answer.session ≡ placed s (OnFile (id_of file)))
-  pub by-master : f.header.p1 ≡ 0x00 → (length (data_of ch cmd) ≡ 2) × (id_in (data_of ch cmd) ≡ 0x3F00) × (o.answer.session ≡ entered s 0)
-  pub image-kept : o.image ≡ img
-  pub nothing-told : o.answer.length ≡ 2
+  pub by_master : f.header.p1 ≡ 0x00 → (length (data_of ch cmd) ≡ 2) × (id_in (data_of ch cmd) ≡ 0x3F00) × (o.answer.session ≡ entered s 0)
+  pub image_kept : o.image ≡ img
+  pub nothing_told : o.answer.length ≡ 2
 
 -- [C13]
 abbrev pub SelectDone : Type 0
@@ -188,18 +188,18 @@ pub record Referred (d : List ℕ) (n : Named) : Type 0 where
   pub reference : List ℕ
   pub writes : d ≡ reference_data reference
   pub size : (1 ≤ length reference) × (length reference ≤ 2)
-  pub by-short : length reference ≡ 1 → (get_or reference 0 0 % 8 ≡ 0) × (n ≡ Short (get_or reference 0 0 / 8))
-  pub by-id : length reference ≡ 2 → n ≡ Id (id_in reference)
+  pub by_short_id : length reference ≡ 1 → (get_or reference 0 0 % 8 ≡ 0) × (n ≡ Short (get_or reference 0 0 / 8))
+  pub by_file_id : length reference ≡ 2 → n ≡ Id (id_in reference)
 
 -- the current file, or the one that the data refers to; its numbers that P2 asks for. The file becomes the current one. [C13] [Z4]
 pub record Reported (img : List ℕ) (s : Session) (ch : Chain) (cmd : List ℕ) (f : Frame) (o : Outcome) : Type 0 where
   pub file : File
   pub named : Named
-  pub of-current : f.header.p1 ≡ 0 → named ≡ Current
-  pub of-named : (f.header.p1 ≡ 0 → ⊥) → Referred (data_of ch cmd) named
+  pub of_current : f.header.p1 ≡ 0 → named ≡ Current
+  pub of_named : (f.header.p1 ≡ 0 → ⊥) → Referred (data_of ch cmd) named
   pub reached : Inspected img s named file
   pub told : data_in o ≡ report_data f.header.p2 (total img file) (remaining img file) (existing img file)
-  pub image-kept : o.image ≡ img
+  pub image_kept : o.image ≡ img
   pub current : o.answer.session ≡ set_file s file
 
 -- [C13]

@@ -118,12 +118,12 @@ SameOr6982 few b p (c ∷ cs) (d ∷ ds) =
 abbrev pub between_with : Between → Rights → Between
 between_with b r = record { image = b.image; session = with_rights b.session r; chain = b.chain }
 
--- the commands cs are sent with the rights `few`, in the state b. With more rights, the commands `with-more` get the same replies, 6982 apart, and
+-- the commands cs are sent with the rights `few`, in the state b. With more rights, the commands `with_more` get the same replies, 6982 apart, and
 -- leave the same image, session and chain. So fewer rights neither tell nor change what more rights could not [C30]
 pub record NoMoreLearnt (few : Rights) (b : Between) (cs : List Sent) : Type 0 where
-  pub with-more : List Sent
-  pub replies : SameOr6982 few b (between_with b few) cs with-more
-  pub left : after_sent (between_with b few) cs ≡ between_with (after_sent b with-more) few
+  pub with_more : List Sent
+  pub replies : SameOr6982 few b (between_with b few) cs with_more
+  pub left : after_sent (between_with b few) cs ≡ between_with (after_sent b with_more) few
 
 -- [C30]
 abbrev pub LearnsNoMore : Type 0
@@ -171,9 +171,9 @@ pub record Decides (i b : ℕ) : Type 0 where
   pub command : List ℕ
   -- there are rights in cleared form that have the bit; without it alone they are in cleared form, too, and have it no longer
   pub one_bit : (r : Rights) × ((is_cleared r ≡ true) × (bit (rights_byte r i) b ≡ true)) × ((is_cleared (without_bit r i b) ≡ true) × (bit (rights_byte (without_bit r i b) i) b ≡ false))
-  pub with-bit : (r : Rights) (buf : List ℕ) → is_cleared r ≡ true → 2050 ≤ length buf → bit (rights_byte r i) b ≡ true
+  pub with_bit : (r : Rights) (buf : List ℕ) → is_cleared r ≡ true → 2050 ≤ length buf → bit (rights_byte r i) b ≡ true
       → (step image (just_entered application r) NoChain command buf).answer.status ≡ 0x9000
-  pub without-bit : (r : Rights) (buf : List ℕ) → is_cleared r ≡ true → 2050 ≤ length buf → bit (rights_byte r i) b ≡ false
+  pub lacks_bit : (r : Rights) (buf : List ℕ) → is_cleared r ≡ true → 2050 ≤ length buf → bit (rights_byte r i) b ≡ false
       → (step image (just_entered application r) NoChain command buf).answer.status ≡ 0x6982
 
 -- for each bit that has a meaning [C31]

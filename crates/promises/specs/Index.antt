@@ -38,15 +38,15 @@ RecordBody k xs = (r : Rule) × Memᴰ r rules × (r.kind ≡ k) × (body_ok r.l
 -- what building gives for the list ps: the result r, and the list `new` [R10] [X13]
 pub record BuildC (k : ℕ) (xs ps : List ℕ) (r : ℕ) (new : List ℕ) : Type 0 where
   -- 6 exactly where the body is not one of a record file of this kind, or the list has fewer entries than the body has records
-  pub refused-complete : (RecordBody k xs → length (records xs) ≤ length ps → ⊥) → r ≡ 6 * 4294967296
-  pub refused-sound : 1 ≤ refusal_in r → RecordBody k xs → length (records xs) ≤ length ps → ⊥
-  pub refused-kept : 1 ≤ refusal_in r → new ≡ ps
+  pub refused_complete : (RecordBody k xs → length (records xs) ≤ length ps → ⊥) → r ≡ 6 * 4294967296
+  pub refused_sound : 1 ≤ refusal_in r → RecordBody k xs → length (records xs) ≤ length ps → ⊥
+  pub refused_kept : 1 ≤ refusal_in r → new ≡ ps
   -- a place for each record: where its length stands
   pub number : refusal_in r ≡ 0 → r ≡ length (records xs)
   pub places : refusal_in r ≡ 0 → (n : ℕ) → IsNumber xs n → get_or new (n - 1) 0 ≡ place xs (n - 1)
   -- the entries behind them stay
-  pub rest-kept : drop (indexed_in r) new ≡ drop (indexed_in r) ps
-  pub size-kept : length new ≡ length ps
+  pub rest_kept : drop (indexed_in r) new ≡ drop (indexed_in r) ps
+  pub size_kept : length new ≡ length ps
 
 -- [X13]
 abbrev pub CIndexBuilds : Type 0
@@ -57,15 +57,15 @@ CIndexBuilds = (k : ℕ) (xs ps : List ℕ) → BuildC k xs ps (index_result (bu
 -- what extending gives for the list ps, which holds n places [R11] [X13]
 pub record ExtendC (k : ℕ) (xs ps : List ℕ) (n r : ℕ) (new : List ℕ) : Type 0 where
   -- 6 exactly where the body is not one of a record file of this kind, has not n + 1 records, or the list has not n + 1 entries
-  pub refused-complete : (RecordBody k xs → length (records xs) ≡ n + 1 → n < length ps → ⊥) → r ≡ 6 * 4294967296
-  pub refused-sound : 1 ≤ refusal_in r → RecordBody k xs → length (records xs) ≡ n + 1 → n < length ps → ⊥
-  pub refused-kept : 1 ≤ refusal_in r → new ≡ ps
+  pub refused_complete : (RecordBody k xs → length (records xs) ≡ n + 1 → n < length ps → ⊥) → r ≡ 6 * 4294967296
+  pub refused_sound : 1 ≤ refusal_in r → RecordBody k xs → length (records xs) ≡ n + 1 → n < length ps → ⊥
+  pub refused_kept : 1 ≤ refusal_in r → new ≡ ps
   -- entry n, counted from 0, is where the length of record n + 1 stands
   pub number : refusal_in r ≡ 0 → r ≡ n + 1
   pub added : refusal_in r ≡ 0 → get_or new n 0 ≡ place xs n
   -- every other entry stays
-  pub others-kept : (i : ℕ) → (i ≡ n → ⊥) → get_or new i 0 ≡ get_or ps i 0
-  pub size-kept : length new ≡ length ps
+  pub others_kept : (i : ℕ) → (i ≡ n → ⊥) → get_or new i 0 ≡ get_or ps i 0
+  pub size_kept : length new ≡ length ps
 
 -- [X13]
 abbrev pub CIndexExtends : Type 0
@@ -82,8 +82,8 @@ pub record Readable (xs ps : List ℕ) (n : ℕ) : Type 0 where
 -- what reading record n by the list ps tells, of any body and any list [R12] [X13]
 pub record ReadC (xs ps : List ℕ) (n r : ℕ) : Type 0 where
   -- 6 exactly where there is no such number or its place leads out of the body
-  pub refused-complete : (Readable xs ps n → ⊥) → r ≡ 6 * 4294967296
-  pub refused-sound : 1 ≤ refusal_in r → Readable xs ps n → ⊥
+  pub refused_complete : (Readable xs ps n → ⊥) → r ≡ 6 * 4294967296
+  pub refused_sound : 1 ≤ refusal_in r → Readable xs ps n → ⊥
   -- else what the two bytes at the place say, and as many bytes stand there
   pub size : refusal_in r ≡ 0 → r ≡ le16 xs (get_or ps (n - 1) 0)
   pub within : refusal_in r ≡ 0 → get_or ps (n - 1) 0 + 2 + r ≤ length xs
@@ -140,7 +140,7 @@ pub record ReadsRecords (xs : List ℕ) (rs : List (List ℕ)) (x : CallerIndex)
 -- that building would give then. The list must have an entry for each record that the file comes to have [R15]
 pub record IndexKept (k : ℕ) (img ps : List ℕ) (calls : List CCall) : Type 0 where
   pub reads : ReadsRecords (lent_body (after_c img calls) k) (history_c k img calls) (index_after_c k img (built_c k img ps) calls)
-  pub as-built : index_after_c k img (built_c k img ps) calls ≡ built_c k (after_c img calls) ps
+  pub as_built : index_after_c k img (built_c k img ps) calls ≡ built_c k (after_c img calls) ps
 
 -- [R15]
 abbrev pub CIndexKept : Type 0

@@ -135,13 +135,13 @@ CMalformed = (img ses cmd buf : List ℕ) → is_session_c ses ≡ false → Mal
 -- of the session that is lent, the bytes themselves stay, but for those of a chain that is dropped [X5] [X8]
 pub record KeptC (img ses buf : List ℕ) (c : Called) : Type 0 where
   pub kept : Kept img (session_in ses) (chain_of_c ses) buf (seen c) (chain_of_c c.session)
-  pub session-kept : (status_in c.result ≡ 0x9000 → ⊥) → take 25 c.session ≡ take 25 ses
+  pub session_kept : (status_in c.result ≡ 0x9000 → ⊥) → take 25 c.session ≡ take 25 ses
   -- a refusal leaves every byte, and so does every status but 9000 where there is no chain
-  pub refused-kept : 1 ≤ refusal_in c.result → c.session ≡ ses
-  pub no-chain-kept : chain_of_c ses ≡ NoChain → (status_in c.result ≡ 0x9000 → ⊥) → c.session ≡ ses
+  pub refused_kept : 1 ≤ refusal_in c.result → c.session ≡ ses
+  pub no_chain_kept : chain_of_c ses ≡ NoChain → (status_in c.result ≡ 0x9000 → ⊥) → c.session ≡ ses
   -- a session has 1,054 bytes; those behind them stay
-  pub session-rest-kept : drop 1054 c.session ≡ drop 1054 ses
-  pub session-size-kept : length c.session ≡ length ses
+  pub session_rest_kept : drop 1054 c.session ≡ drop 1054 ses
+  pub session_size_kept : length c.session ≡ length ses
 
 -- [X8] [C4]
 abbrev pub CSaysNo : Type 0

@@ -36,16 +36,16 @@ pub record Takes (ch : Chain) (f : Frame) : Type 0 where
 -- what it gets; `left` is the chain afterwards [C27]
 pub record LinkAnswered (img : List ℕ) (s : Session) (ch : Chain) (cmd : List ℕ) (f : Frame) (o : Outcome) (left : Chain) : Type 0 where
   -- 9000 exactly where the chain takes it
-  pub taken-complete : Takes ch f → o.answer.status ≡ 0x9000
-  pub taken-sound : o.answer.status ≡ 0x9000 → Takes ch f
+  pub taken_complete : Takes ch f → o.answer.status ≡ 0x9000
+  pub taken_sound : o.answer.status ≡ 0x9000 → Takes ch f
   -- its data then stand behind those of the links before it
   pub joins : o.answer.status ≡ 0x9000 → left ≡ Links f.header.ins f.header.p1 f.header.p2 (so_far ch ++ part cmd f.from f.lc)
   -- and nothing else changes: no file is set, no image written, no data told
-  pub image-kept : o.image ≡ img
-  pub session-kept : o.answer.session ≡ s
-  pub nothing-told : o.answer.length ≡ 2
+  pub image_kept : o.image ≡ img
+  pub session_kept : o.answer.session ≡ s
+  pub nothing_told : o.answer.length ≡ 2
   -- another header amid a chain
-  pub other-header : LinkPair f.header → goes_on ch f.header ≡ false → o.answer.status ≡ 0x6883
+  pub another_header : LinkPair f.header → goes_on ch f.header ≡ false → o.answer.status ≡ 0x6883
 
 -- [C27]
 abbrev pub EachLinkAnswered : Type 0
@@ -118,14 +118,14 @@ AllLinks h (l ∷ ls) = IsLink h l × AllLinks h ls
 -- the command `whole` of frame f, cut into links and a last command with the same Le: the pieces and the data of the last are its data, in order [C28]
 pub record CutInto (whole : List ℕ) (f : Frame) (ls : List Link) (last : List ℕ) : Type 0 where
   pub shape : shape_of whole ≡ Good f
-  pub no-link : is_link f.header ≡ false
+  pub no_link : is_link f.header ≡ false
   pub links : AllLinks f.header ls
   pub frame : Frame
-  pub last-shape : shape_of last ≡ Good frame
-  pub last-header : frame.header ≡ f.header
-  pub last-le : frame.le ≡ f.le
-  pub last-ne : frame.ne ≡ f.ne
-  pub all-data : pieces ls ++ part last frame.from frame.lc ≡ part whole f.from f.lc
+  pub last_shape : shape_of last ≡ Good frame
+  pub last_header : frame.header ≡ f.header
+  pub last_le : frame.le ≡ f.le
+  pub last_ne : frame.ne ≡ f.ne
+  pub all_data : pieces ls ++ part last frame.from frame.lc ≡ part whole f.from f.lc
 
 -- from a session without a chain: the last gets the answer of the whole, and leaves its image, its session and its buffer; where its response buffer
 -- is long enough it ends the chain too. A shorter one is refused, and a refusal leaves the chain [C28]

@@ -43,14 +43,14 @@ use Rattle.promises.specs.Matches.{Matches}
 -- what every outcome of a command leaves of the image, the session with its chain, and the buffer that came in; `left` is the chain afterwards [C4]
 pub record Kept (img : List ℕ) (s : Session) (ch : Chain) (buf : List ℕ) (o : Outcome) (left : Chain) : Type 0 where
   -- without 9000 image and session are as they came, but for a chain, which is dropped
-  pub image-kept : (o.answer.status ≡ 0x9000 → ⊥) → o.image ≡ img
-  pub session-kept : (o.answer.status ≡ 0x9000 → ⊥) → o.answer.session ≡ s
-  pub chain-dropped : verdict_number o.answer.verdict ≡ 0 → (o.answer.status ≡ 0x9000 → ⊥) → left ≡ NoChain
+  pub image_kept : (o.answer.status ≡ 0x9000 → ⊥) → o.image ≡ img
+  pub session_kept : (o.answer.status ≡ 0x9000 → ⊥) → o.answer.session ≡ s
+  pub chain_dropped : verdict_number o.answer.verdict ≡ 0 → (o.answer.status ≡ 0x9000 → ⊥) → left ≡ NoChain
   -- a session without a chain stays exactly
-  pub chain-kept : ch ≡ NoChain → (o.answer.status ≡ 0x9000 → ⊥) → left ≡ NoChain
+  pub chain_kept : ch ≡ NoChain → (o.answer.status ≡ 0x9000 → ⊥) → left ≡ NoChain
   -- the response buffer changes only where the answer stands
-  pub rest-kept : drop o.answer.length o.buffer ≡ drop o.answer.length buf
-  pub size-kept : length o.buffer ≡ length buf
+  pub rest_kept : drop o.answer.length o.buffer ≡ drop o.answer.length buf
+  pub size_kept : length o.buffer ≡ length buf
   -- a command is refused with 1, 2 or 4, or not at all
   pub number : Memᴰ (verdict_number o.answer.verdict) (0 ∷ 1 ∷ 2 ∷ 4 ∷ [])
   -- a refused command changes nothing
@@ -66,9 +66,9 @@ pub record Answered (o : Outcome) : Type 0 where
   -- one of the status words
   pub known : Memᴰ o.answer.status words
   -- SW1 SW2 stand behind the data, the length counts both, and there are 2 to 2,050 bytes
-  pub word-counted : 2 ≤ o.answer.length
-  pub data-bounded : o.answer.length ≤ 2050
-  pub word-last : part o.buffer (o.answer.length - 2) 2 ≡ o.answer.status / 256 ∷ o.answer.status % 256 ∷ []
+  pub word_counted : 2 ≤ o.answer.length
+  pub data_bounded : o.answer.length ≤ 2050
+  pub word_last : part o.buffer (o.answer.length - 2) 2 ≡ o.answer.status / 256 ∷ o.answer.status % 256 ∷ []
 
 -- every accepted command gets a status word, whatever bytes it and its chain have [C5]
 abbrev pub GetsWord : Type 0
@@ -123,7 +123,7 @@ pub record Reads (s : Session) (f : Frame) (rs : ℕ → List (List ℕ)) (o : O
   pub permitted : Permitted s Read rule
   -- the number is P1, or where P1 is 00 the current record's
   pub by_number : (f.header.p1 ≡ 0 → ⊥) → number ≡ f.header.p1
-  pub by-current : f.header.p1 ≡ 0 → s.place ≡ OnRecord rule.id number
+  pub by_current : f.header.p1 ≡ 0 → s.place ≡ OnRecord rule.id number
   pub low : 1 ≤ number
   pub high : number ≤ length (rs rule.kind)
   pub one : f.header.p2 % 8 ≡ 4 → data_in o ≡ nth (rs rule.kind) number
@@ -169,16 +169,16 @@ pub record Names (rs : List (List ℕ)) (x : SearchFields) (ne : ℕ) (o : Outco
   pub numbers : List ℕ
   -- the records that match and no other, each once, ascending
   pub ascending : Ascending 0 numbers
-  pub listed-sound : (n : ℕ) → Memᴰ n numbers → Matches rs x n
-  pub listed-complete : x.mode ≡ 0x00 → (n : ℕ) → Matches rs x n → Memᴰ n numbers
+  pub listed_sound : (n : ℕ) → Memᴰ n numbers → Matches rs x n
+  pub listed_complete : x.mode ≡ 0x00 → (n : ℕ) → Matches rs x n → Memᴰ n numbers
   -- only the first, where only the first is asked for
   pub first : x.mode ≡ 0x30 → (n : ℕ) → Matches rs x n → (length numbers ≡ 1) × (get_or numbers 0 0 ≤ n)
   -- the reply, where it fits
   pub reply : (n : ℕ) → Matches rs x n → length (found_data x.file numbers) ≤ ne
       → (o.answer.status ≡ 0x9000) × (data_in o ≡ found_data x.file numbers)
   -- 6282 exactly where none matches, with no data
-  pub none-complete : ((n : ℕ) → Matches rs x n → ⊥) → (o.answer.status ≡ 0x6282) × (o.answer.length ≡ 2)
-  pub none-sound : o.answer.status ≡ 0x6282 → (n : ℕ) → Matches rs x n → ⊥
+  pub none_complete : ((n : ℕ) → Matches rs x n → ⊥) → (o.answer.status ≡ 0x6282) × (o.answer.length ≡ 2)
+  pub none_sound : o.answer.status ≡ 0x6282 → (n : ℕ) → Matches rs x n → ⊥
 
 -- a search after any calls, which is not refused [C11]
 abbrev pub LeavesNoneOut : Type 0
@@ -290,8 +290,8 @@ OpeningBytes =
 
 -- its result has the verdict's number, the length and the status, and length and status have room in their 16 bits [X3]
 pub record Whole (result : ℕ) (a : Answer) : Type 0 where
-  pub length-small : a.length < 65536
-  pub status-small : a.status < 65536
+  pub length_small : a.length < 65536
+  pub status_small : a.status < 65536
   pub sum : result ≡ verdict_number a.verdict * 4294967296 + a.length * 65536 + a.status
 
 -- [X3]

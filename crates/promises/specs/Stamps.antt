@@ -28,22 +28,22 @@ pub record IsStamp (s : List ℕ) (x : Stamp) : Type 0 where
 -- what reading the record s tells: the result r, and the list `new` that was ps [TR6] [TR8] [TR10] [X14]
 pub record StampC (s ps : List ℕ) (r : ℕ) (new : List ℕ) : Type 0 where
   -- 15 exactly where the list has fewer than 26 entries
-  pub short-complete : length ps < 26 → r ≡ 15 * 4294967296
-  pub short-sound : stamp_reason_in r ≡ 15 → length ps < 26
+  pub short_complete : length ps < 26 → r ≡ 15 * 4294967296
+  pub short_sound : stamp_reason_in r ≡ 15 → length ps < 26
   -- 0 exactly where the record is a stamp, which is exactly where nothing is wrong with it
-  pub stamp-complete : 26 ≤ length ps → (x : Stamp) → IsStamp s x → r ≡ 0
-  pub stamp-sound : r ≡ 0 → (x : Stamp) × IsStamp s x
-  pub right-complete : 26 ≤ length ps → NoFault (StampFaults s) → r ≡ 0
-  pub right-sound : r ≡ 0 → NoFault (StampFaults s)
+  pub stamp_complete : 26 ≤ length ps → (x : Stamp) → IsStamp s x → r ≡ 0
+  pub stamp_sound : r ≡ 0 → (x : Stamp) × IsStamp s x
+  pub right_complete : 26 ≤ length ps → NoFault (StampFaults s) → r ≡ 0
+  pub right_sound : r ≡ 0 → NoFault (StampFaults s)
   -- and then the list has the places of the stamp's fields
   pub places : r ≡ 0 → (x : Stamp) → IsStamp s x → take 26 new ≡ stamp_places x
   -- else the first fault is told, by reason and offset, and whatever is first is what is told
-  pub fault-complete : 26 ≤ length ps → (w : Reason) (at : ℕ) → FirstOf (StampFaults s) w at → r ≡ reason_number w * 4294967296 + at
-  pub fault-sound : 26 ≤ length ps → 1 ≤ r → (w : Reason) × (stamp_reason_in r ≡ reason_number w) × FirstOf (StampFaults s) w (stamp_offset_in r)
+  pub fault_complete : 26 ≤ length ps → (w : Reason) (at : ℕ) → FirstOf (StampFaults s) w at → r ≡ reason_number w * 4294967296 + at
+  pub fault_sound : 26 ≤ length ps → 1 ≤ r → (w : Reason) × (stamp_reason_in r ≡ reason_number w) × FirstOf (StampFaults s) w (stamp_offset_in r)
   -- and the list stays
-  pub fault-kept : 1 ≤ r → new ≡ ps
-  pub rest-kept : drop 26 new ≡ drop 26 ps
-  pub size-kept : length new ≡ length ps
+  pub fault_kept : 1 ≤ r → new ≡ ps
+  pub rest_kept : drop 26 new ≡ drop 26 ps
+  pub size_kept : length new ≡ length ps
 
 -- [X14]
 abbrev pub CStampReads : Type 0

@@ -69,7 +69,7 @@ module _ (xs : List ℕ) (n : ℕ) where
 pub record Stands (xs : List ℕ) (n : ℕ) (s : Stretch) : Type 0 where
   pub behind : s.start ≡ place xs (n - 1) + 2
   pub start_small : s.start < 262144
-  pub length-small : s.length < 1024
+  pub length_small : s.length < 1024
   pub some : 1 ≤ s.length
   pub within : s.start + s.length ≤ length xs
   pub bytes : part xs s.start s.length ≡ nth (records xs) n
@@ -87,7 +87,7 @@ stands xs n c h =
     record {
       behind = refl;
       start_small = omega arith;
-      length-small = omega (arith, o.short);
+      length_small = omega (arith, o.short);
       some = o.some;
       within = o.whole;
       bytes = nth-at xs n (place xs (n - 1)) a.first a.last refl;

@@ -137,5 +137,5 @@ by_short_own img a x =
     by : (f : Ruled) → rule_of (Short a x) ≡ f → eqb a 0 ≡ false → Own img a (ruled img f NoFile)
     by Nothing e n = tt
     by (Is r) e n =
-        let k : rule_of (Id a r.id) ≡ Is r = rw (sym (eqb-true r.application a (and_left (eqb r.application a) (eqb r.short x) (rule_key (Short a x) r e)))) (rule_regular (Short a x) r e).by-id in
+        let k : rule_of (Id a r.id) ≡ Is r = rw (sym (eqb-true r.application a (and_left (eqb r.application a) (eqb r.short x) (rule_key (Short a x) r e)))) (rule_regular (Short a x) r e).by_file_id in
         if_else_ind (Own img a) (has img r.kind) (λ h. simp (n, k, h)) (λ h. tt)

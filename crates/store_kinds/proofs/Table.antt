@@ -128,8 +128,8 @@ pub record Regular (r : Rule) : Type 0 where
   pub last : r.application ≤ 3
   pub high : r.kind / 256 ≡ r.application
   pub by_kind : rule_of (Kind r.kind) ≡ Is r
-  pub by-id : rule_of (Id r.application r.id) ≡ Is r
-  pub by-short : rule_of (Short r.application r.short) ≡ Is r
+  pub by_file_id : rule_of (Id r.application r.id) ≡ Is r
+  pub by_short_id : rule_of (Short r.application r.short) ≡ Is r
   pub id_small : r.id ≤ 0xFFFF
   pub low_bits : 1 ≤ r.short % 8
 
@@ -161,8 +161,8 @@ listed_regular r m =
       last = leb-true _ _ h.1.1.1.1.0;
       high = eqb-true _ _ h.1.1.1.1.1.0;
       by_kind = is-rule r _ h.1.1.1.1.1.1.0;
-      by-id = is-rule r _ h.1.1.1.1.1.1.1.0;
-      by-short = is-rule r _ h.1.1.1.1.1.1.1.1.0;
+      by_file_id = is-rule r _ h.1.1.1.1.1.1.1.0;
+      by_short_id = is-rule r _ h.1.1.1.1.1.1.1.1.0;
       id_small = leb-true _ _ h.1.1.1.1.1.1.1.1.1.0;
       low_bits = leb-true _ _ h.1.1.1.1.1.1.1.1.1.1.0;
     }
