@@ -14,7 +14,7 @@ use Rattle.base.specs.Bytes.{part, put, AllBytes}
 use Rattle.base.proofs.Cases.{if_else_ind, all_of_facts}
 use Rattle.base.proofs.Parts.{length_part}
 use Rattle.store_image.specs.Image.{well_formed}
-use Rattle.machine_apdu.specs.Status.{normal, wrong_length}
+use Rattle.machine_apdu.specs.Status.{normal}
 use Rattle.machine_apdu.specs.Shape.{shape_of}
 use Rattle.machine_apdu.specs.declared.Apdu.{Apdu}
 use Rattle.machine_apdu.specs.declared.Apdu.TheVariants.{Bad, Good}
@@ -26,19 +26,17 @@ use Rattle.machine_session.specs.declared.Refusal.{Refusal}
 use Rattle.machine_session.specs.declared.Session.{Session}
 use Rattle.machine_session.specs.declared.Verdict.{Verdict}
 use Rattle.machine_session.specs.declared.Verdict.TheVariants.{Accepted, Refused}
-use Rattle.store_records.specs.Little.{le16}
 use Rattle.machine_chain.specs.Chain.{Chain, NoChain, is_amid, so_far, extended}
-use Rattle.machine_chain.specs.Layout.{no_chain_bytes, chain_bytes, is_chain, chain_in, join_into}
-use Rattle.machine_chain.proofs.Reading.{so_far_is}
+use Rattle.machine_chain.specs.Layout.{no_chain_bytes, is_chain, chain_in, join_into}
 use Rattle.machine_chain.proofs.Laws.{extend-whole}
 use Rattle.machine_chain.proofs.Joining.{joined_data, ended}
 use Rattle.machine_link.specs.Link.{turn, lent_fits}
 use Rattle.machine_link.specs.declared.Course.{Course}
 use Rattle.machine_link.specs.declared.Course.TheVariants.{Stops, Extends, Goes}
-use Rattle.machine_link.proofs.Turning.{Turned, stopped, joined, gone, turn-told, extending_few, going_few}
-use Rattle.machine_dispatch.specs.Decide.{by_class, whole_frame, on_course, decide, data_of, chain_on, chain_behind}
+use Rattle.machine_link.proofs.Turning.{Turned, joined, gone, turn-told, extending_few, going_few}
+use Rattle.machine_dispatch.specs.Decide.{by_class, whole_frame, decide, data_of, chain_behind}
 use Rattle.machine_dispatch.specs.Loops.{Allowed}
-use Rattle.machine_dispatch.proofs.Allowing.{bytes-append, bytes-part, class-from, from_allowed}
+use Rattle.machine_dispatch.proofs.Allowing.{class-from, from_allowed}
 use Rattle.machine_action.specs.declared.Action.{Action}
 use Rattle.machine_action.specs.declared.Action.TheVariants.{Status}
 use Rattle.machine_answer.specs.Outcome.{Outcome, outcome, word, answered, refused, says}

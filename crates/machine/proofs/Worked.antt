@@ -20,7 +20,7 @@ use Rattle.machine_rights.specs.Rights.{bit, flagged, record_bit, certificate_bi
 use Rattle.machine_apdu.specs.Shape.{be16_at, or_most, header_of, framed, first_shape, shapes, shape_of}
 use Rattle.machine_session.specs.Order.{in_order}
 use Rattle.machine_session.specs.Resolve.{file_meant, is_certificates, may_record, may_inspect, resolve_record, resolve_file}
-use Rattle.machine_session.specs.Session.{opened, is_current, set_file, current_record, application_fits, place_fits, session_fits, placed, entered}
+use Rattle.machine_session.specs.Session.{opened, is_current, set_file, current_record, application_fits, place_fits, session_fits}
 use Rattle.machine_session.specs.Verdict.{verdict}
 use Rattle.machine_window.specs.Window.{begins, occurs_in, window_of, matches_in}
 use Rattle.machine_reply_record.specs.Joined.{records_joined, records_data}

@@ -1,12 +1,12 @@
 -- A copy of a chain's 1,029 bytes is the same chain. Exports `copy-chain`, `copy-same`.
 use Prim.Native.Nat.{ℕ, ◌+◌, ◌-◌, ◌*◌, ◌≤◌, ◌<◌}
-use mathlib.Core.Path.{◌≡◌, refl, sym, ap, ap₂, ◌∙◌}
+use mathlib.Core.Path.{◌≡◌, ap, ap₂, ◌∙◌}
 use mathlib.Core.Bool.{true}
-use mathlib.Core.List.{List, [], ◌++◌, append-nil}
+use mathlib.Core.List.{List, ◌++◌, append-nil}
 use native.Mathlib.Omega.{arith}
-use lib.ListN.{length, get_or, take, drop, drop_of_length-le}
-use lib.Seq.{get_or-take, length-take-le, take-take}
-use lib.Dec.{leb, eqb}
+use lib.ListN.{length, get_or, take, drop_of_length-le}
+use lib.Seq.{get_or-take, length-take-le}
+use lib.Dec.{eqb}
 use borrow.Author.Tests.{le-leb}
 use Rattle.base.specs.Choice.{if_else, all_of}
 use Rattle.base.specs.Bytes.{part, put}

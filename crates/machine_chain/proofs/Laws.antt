@@ -8,17 +8,17 @@ use mathlib.Core.List.{List, [], ◌∷◌, ◌++◌, append_assoc}
 use native.Mathlib.Omega.{arith}
 use native.Mathlib.Nat.{zero-add}
 use lib.ListN.{length, get_or, take, drop, replicate, length-append, length-drop, length-replicate}
-use lib.Seq.{length-take-le, sets-eq, drop-cons, drop-append-le, drop_at, drop-drop, take-append-le, take_all}
-use lib.Dec.{leb, eqb}
+use lib.Seq.{length-take-le, sets-eq, drop-cons, drop-append-le, drop_at, take-append-le, take_all}
+use lib.Dec.{eqb}
 use borrow.Author.Tests.{leb-true, eqb-true, eq-eqb, ne_eqb}
-use Rattle.base.specs.Choice.{if_else, all_of}
+use Rattle.base.specs.Choice.{if_else}
 use Rattle.base.specs.Bytes.{part, put}
 use Rattle.base.proofs.Cases.{by_cases, false-true, all_of_facts}
 use Rattle.base.proofs.Parts.{length_part, drop-take}
 use Rattle.base.proofs.Runs.{put_accepted, length-put}
 use Rattle.store_records.specs.Little.{le16, bytes16}
 use Rattle.machine_apdu.specs.declared.Header.{Header}
-use Rattle.machine_chain.specs.Chain.{Chain, NoChain, Links, is_amid, so_far, extended}
+use Rattle.machine_chain.specs.Chain.{Links, is_amid, so_far, extended}
 use Rattle.machine_chain.specs.Layout.{chain_head, no_chain_bytes, chain_bytes, zero_run, unused_zeros, is_chain, chain_in, join_into}
 use Rattle.machine_chain.proofs.Unused.{zeros-at}
 use Rattle.machine_chain.proofs.Reading.{amid_is, so_far_is}

@@ -3,7 +3,6 @@
 -- `stored-append`, `stored-activate`, `stored-class`, `stored_other` (which commands store); `cut-stores_small`.
 use Prim.Native.Nat.{ℕ, ◌+◌, ◌≤◌, ◌<◌}
 use mathlib.Core.Path.{◌≡◌, refl, sym, ap, ap₂, subst, ◌∙◌}
-use mathlib.Core.Bool.{true}
 use mathlib.Core.List.{List, ◌++◌}
 use native.Mathlib.Omega.{arith}
 use lib.ListN.{length, length-append}
@@ -25,7 +24,7 @@ use Rattle.machine_record.specs.AppendRecord.{append_record}
 use Rattle.machine_dispatch.proofs.Allowing.{Pair, From, class-from}
 use borrow.Author.Tests.{eqb-true}
 use Rattle.machine_chain.specs.Chain.{Chain, is_amid, so_far}
-use Rattle.machine_chain.specs.Layout.{is_chain, chain_in, join_into}
+use Rattle.machine_chain.specs.Layout.{chain_in, join_into}
 use Rattle.machine_chain.proofs.Copying.{copy-chain, copy-same}
 use Rattle.machine_chain.proofs.Joining.{joined_data}
 use Rattle.machine_dispatch.specs.Decide.{by_ins, by_class, whole_frame, data_of, decide}
@@ -34,7 +33,7 @@ use Rattle.machine.specs.Lent.{verdict_lent, judged}
 use Rattle.machine.specs.Loops.{Ready}
 use Rattle.machine.specs.declared.Judgement.TheVariants.{Denied, Stopped, Linked, Obeyed}
 use Rattle.machine.proofs.Accepting.{judged-told}
-use Rattle.machine_cut.specs.Cutting.{storing, cut_stores, cut_image, cut_outcome, cut_by, cut, cut_lent}
+use Rattle.machine_cut.specs.Cutting.{storing, cut_stores, cut_outcome, cut_by, cut, cut_lent}
 use Rattle.machine_cut.specs.Loops.{Cuts}
 use Rattle.machine_cut.specs.declared.Storage.{Storage}
 use Rattle.machine_cut.specs.declared.Storage.TheVariants.{To, Nothing}

@@ -1,7 +1,6 @@
 -- Every public function of this crate has one outcome: its contract leaves nothing open. Read before: specs/Determined.antt of base.
-use mathlib.Core.Path.{sym, ap, ◌∙◌}
+use mathlib.Core.Path.{sym, ◌∙◌}
 use Rattle.base.specs.Determined.{Determined}
-use Rattle.machine_cut.specs.Cutting.{CutOutcome}
 use Rattle.machine_cut.proofs.cut.Kinds as cut-kinds
 use Rattle.machine_cut.proofs.cut.Reads as cut-reads
 

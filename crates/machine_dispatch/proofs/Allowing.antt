@@ -1,6 +1,6 @@
 -- What an action tells of the command that it comes from: that command's tests all held. Read specs/Decide.antt before. Exports `From`,
 -- `decide-from`, and `decide_allowed` for the functions that do what a command comes to.
-use Prim.Native.Nat.{ℕ, ◌+◌, ◌-◌, ◌/◌, ◌%◌, ◌≤◌, ◌<◌}
+use Prim.Native.Nat.{ℕ, ◌+◌, ◌-◌, ◌/◌, ◌%◌, ◌≤◌}
 use mathlib.Core.Path.{◌≡◌, refl, sym, ap, ◌∙◌, subst}
 use mathlib.Core.Bool.{Bool, true, ◌||◌, or-true}
 use mathlib.Core.List.{List, [], ◌++◌}

@@ -1,15 +1,13 @@
 -- What a command's course tells of it. Read specs/Link.antt before. Exports `Extending`, `Going`, `Turned`, `turn-told`, `extending_few`, `going_few`.
 use Prim.Native.Nat.{ℕ, ◌+◌, ◌≤◌}
 use mathlib.Core.Path.{◌≡◌, refl, sym, ◌∙◌}
-use mathlib.Core.Bool.{Bool, true, false}
-use mathlib.Core.List.{List, [], ◌∷◌}
+use mathlib.Core.Bool.{true, false}
 use native.Mathlib.Omega.{arith}
 use lib.ListN.{length}
-use lib.Dec.{leb, ltb, eqb}
+use lib.Dec.{ltb, eqb}
 use borrow.Author.Tests.{eqb-true, leb-true}
-use Rattle.base.proofs.Cases.{by_cases, false-true, if_else_ind}
+use Rattle.base.proofs.Cases.{false-true, if_else_ind}
 use Rattle.machine_apdu.specs.Status.{normal, wrong_length}
-use Rattle.machine_apdu.specs.declared.Header.{Header}
 use Rattle.machine_apdu.specs.declared.Frame.{Frame}
 use Rattle.machine_session.specs.Order.{in_order}
 use Rattle.machine_session.proofs.Steps.{in_order-each}

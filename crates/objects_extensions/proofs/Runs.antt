@@ -1,7 +1,7 @@
 -- A run gives the certificate of its extensions, or tells the fault of the first that has one; and each run of bytes is one or the other.
 -- Read before: specs/Faults.antt. Exports `run_end`, `not-whole`, `run_complete`,
 -- `run-filled`, `certificate-length`, `run_fault`, `run_or_fault`.
-use Prim.Native.Nat.{ℕ, zero, suc, ◌+◌, ◌≤◌, ◌<◌}
+use Prim.Native.Nat.{ℕ, zero, suc, ◌+◌, ◌≤◌}
 use mathlib.Core.Path.{◌≡◌, refl, sym, ap, ◌∙◌}
 use mathlib.Core.Bool.{true, false}
 use mathlib.Core.Logic.{◌⊎◌, inl, inr, ⊎_elim}

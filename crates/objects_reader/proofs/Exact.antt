@@ -8,7 +8,7 @@ use mathlib.Core.Bool.{true}
 use mathlib.Core.Logic.{◌⊎◌, inl, inr, ⊎_elim}
 use native.Mathlib.Omega.{arith}
 use lib.ListN.{length, take, drop, set, length-set, length-drop, length-take, length-append, take-append-drop, get_or-append, get_or-eq_default}
-use lib.Seq.{drop-drop, drop_at, take_at, get_or-drop, get_or-take, get_or-set_same, get_or-set_other, get_or-append_seam, length-take-le, ext_get_or}
+use lib.Seq.{drop-drop, drop_at, take_at, get_or-drop, get_or-take, get_or-set_same, get_or-set_other, get_or-append_seam, length-take-le}
 use lib.Dec.{ltb, eqb, lit<}
 use borrow.Author.Tests.{lt-ltb, le-ltb, ne_eqb, ltb-true, ltb-false, eqb-true, eqb-false}
 use Rattle.base.specs.Bytes.{AllBytes}

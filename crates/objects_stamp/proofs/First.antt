@@ -1,7 +1,7 @@
 -- The first fault is first: whatever else is wrong stands behind it, or is a later reason there. Read before: specs/Faults.antt. Exports `IsFirst`,
 -- `fault_first`, `first_unique`,
 -- and `fault_near` with `reach` (a fault stands near the front).
-use Prim.Native.Nat.{ℕ, suc, ◌+◌, ◌-◌, ◌*◌, ◌≤◌, ◌<◌}
+use Prim.Native.Nat.{ℕ, suc, ◌+◌, ◌*◌, ◌≤◌, ◌<◌}
 use mathlib.Core.Path.{◌≡◌, refl, sym, ap, ap₂, subst, ◌∙◌}
 use mathlib.Core.List.{List}
 use mathlib.Core.Bool.{Bool, true, false}

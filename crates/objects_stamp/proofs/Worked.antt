@@ -1,5 +1,4 @@
 -- Records read, computed: the longest stamp, the shortest, and one with each kind of fault.
-use Prim.Native.Nat.{◌+◌}
 use Prim.Native.Nat.{ℕ, zero, suc}
 use mathlib.Core.Path.{◌≡◌, refl}
 use mathlib.Core.Bool.{Bool, true, ◌&&◌}

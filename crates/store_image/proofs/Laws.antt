@@ -16,7 +16,7 @@ use Rattle.base.proofs.Cases.{all_of_facts}
 use Rattle.base.proofs.Parts.{length_part}
 use Rattle.store_records.specs.Little.{le16}
 use Rattle.store_records.specs.Body.{count, behind, place, record_at, records, nth, used, append_fits, body_ok, appendable, appended, append}
-use Rattle.store_kinds.specs.Biometrics.{state, written, room, written_bytes, bio_ok, updated, update, activate}
+use Rattle.store_kinds.specs.Biometrics.{state, written, written_bytes, bio_ok, updated, update, activate}
 use Rattle.store_kinds.specs.Biometrics.{updatable as takes_at}
 use Rattle.store_kinds.specs.Rules.{has_key, rule_of, is_biometrics, application_of, kind_ok}
 use Rattle.store_cut.specs.Stores.{make_stores}

@@ -2,7 +2,7 @@
 -- Read before: specs/Index.antt. Exports: `length-places`, `get_d_places`, `places-turn` (the list), `record_file_ok-…` (the test by its two parts,
 -- and what it tells), `Stands`, `stands`, `place_read` (a place is within the body, and small), `ByRow`, `record_file_ok_row`,
 -- `row_record_file_ok` (the test by the rule table's rows).
-use Prim.Native.Nat.{ℕ, suc, ◌+◌, ◌-◌, ◌≤◌, ◌<◌, min}
+use Prim.Native.Nat.{ℕ, suc, ◌+◌, ◌≤◌, ◌<◌, min}
 use mathlib.Core.Path.{◌≡◌, refl, sym, ap, ap₂, ◌∙◌}
 use mathlib.Core.Bool.{true, false, and-true}
 use mathlib.Core.List.{List, [], ◌∷◌, ◌++◌, Memᴰ}

@@ -1,7 +1,7 @@
 -- What an append leaves: the old records with the new one behind them, in a body that is still well formed.
 -- Read before: specs/Body.antt, Bodies. Exports: `Appendable`, `appendable-…` (whether a body can take a record), `append_accepted`,
 -- `append-refused`, `length-record_bytes`, `appended-…` (the body afterwards), `…-agree` (bodies that agree up to a place have the same records there).
-use Prim.Native.Nat.{ℕ, zero, suc, ◌+◌, ◌-◌, ◌/◌, ◌%◌, ◌≤◌, ◌<◌}
+use Prim.Native.Nat.{ℕ, zero, suc, ◌+◌, ◌/◌, ◌%◌, ◌≤◌, ◌<◌}
 use mathlib.Core.Path.{◌≡◌, refl, sym, ap, ap₂, ◌∙◌}
 use mathlib.Core.Bool.{Bool, true, false, ◌&&◌, and-false}
 use mathlib.Core.List.{List, [], ◌∷◌, ◌++◌}

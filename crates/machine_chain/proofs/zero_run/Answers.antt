@@ -11,12 +11,13 @@ loop-i-init c = (omega arith, refl)
 
 pub loop-i-preserved : goal.loop-i-preserved
 loop-i-preserved c =
-    let l = c.loop-i in
-    (omega arith,
-    elim c.if-most-b.branch [
-      then-most-b w ↦ zeros_up _ _ _ _ l.invariant.1 _ w.if-most-b.true w.most-is
-    | else-most-b w ↦ zeros-same _ _ _ _ l.invariant.1 _ w.if-most-b.false w.most-is
-    ])
+    let l = c.loop-i in (
+      omega arith,
+      elim c.if-most-b.branch [
+        | then-most-b w ↦ zeros_up _ _ _ _ l.invariant.1 _ w.if-most-b.true w.most-is
+        | else-most-b w ↦ zeros-same _ _ _ _ l.invariant.1 _ w.if-most-b.false w.most-is
+      ],
+    )
 
 pub returns : goal.returns
 returns c = let l = c.loop-i in l.invariant.1 ∙ ap (zero_run _ _) (omega (arith, l.invariant.0))

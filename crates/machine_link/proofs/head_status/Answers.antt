@@ -21,8 +21,8 @@ module _ {k : ℕ} where
 known : (c : Joined-class-ne0) → (eqb c.class_of-class.result 0x00 || eqb c.class_of-class.result 0x80) ≡ true
 known c =
     elim c.if-class-ne0.branch [
-      then-class-ne0+else-class-ne128 w ↦ second w.if-class-ne128.false
-    | else-class-ne0 w ↦ first w.if-class-ne0.false
+      | then-class-ne0+else-class-ne128 w ↦ second w.if-class-ne128.false
+      | else-class-ne0 w ↦ first w.if-class-ne0.false
     ]
 
 pub returns-then-class-ne128 : goal.returns-then-class-ne128

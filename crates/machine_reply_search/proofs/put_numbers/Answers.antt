@@ -1,5 +1,4 @@
 use native.Mathlib.Omega.{arith}
-use Prim.Native.Nat.{◌-◌}
 use mathlib.Core.Path.{refl, ◌∙◌}
 use Rattle.machine_reply_search.specs.Found.{listed}
 use Rattle.machine_reply_search.proofs.Listing.{listed-turn, listed_end}

@@ -1,4 +1,4 @@
-use Prim.Native.Nat.{◌-◌, min}
+use Prim.Native.Nat.{min}
 use mathlib.Core.Path.{◌∙◌, ap}
 use Rattle.machine_reply_search.proofs.Searching.{sought_start, sought_miss, sought_hit, sought_one, sought_end}
 use Rattle.machine_reply_search.proofs.search.Goals as goal

@@ -1,4 +1,3 @@
-use Prim.Native.Nat.{◌-◌}
 use mathlib.Core.Path.{refl}
 use native.Mathlib.Omega.{arith}
 use Rattle.objects_extensions.proofs.Steps.{gave, walk_start, walk_end, walk_tag, walk_length, walk_within, walk_less, walk_stop, walk_next}

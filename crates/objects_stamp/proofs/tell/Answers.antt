@@ -1,5 +1,4 @@
 use mathlib.Core.Path.{refl}
-use Prim.Native.Nat.{◌-◌}
 use native.Mathlib.Omega.{arith}
 use Rattle.objects_stamp.specs.Rules.{content_ok}
 use Rattle.objects_stamp.proofs.Telling.{told_next, told_bad, told_end}

@@ -1,4 +1,3 @@
-use Prim.Native.Nat.{◌-◌}
 use native.Mathlib.Omega.{arith}
 use Rattle.store_image.proofs.Sections.{seek_start, seek_none, seek_hit, seek_next}
 use Rattle.store_image.proofs.find.Goals as goal

@@ -1,4 +1,3 @@
-use Prim.Native.Nat.{◌-◌}
 use native.Mathlib.Omega.{arith}
 use Rattle.store_move.proofs.Clearing.{clear-start, clear-size, clear_next, clear_end}
 use Rattle.store_move.proofs.clear.Goals as goal

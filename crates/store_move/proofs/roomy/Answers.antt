@@ -1,4 +1,3 @@
-use Prim.Native.Nat.{◌-◌}
 use native.Mathlib.Omega.{arith}
 use Rattle.base.proofs.Cases.{flag_refused, flag_accepted}
 use Rattle.store_move_plan.specs.Rooms.{rows}

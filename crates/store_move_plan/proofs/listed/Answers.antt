@@ -1,4 +1,3 @@
-use Prim.Native.Nat.{◌-◌}
 use native.Mathlib.Omega.{arith}
 use Rattle.store_move_plan.specs.Rooms.{rows}
 use Rattle.store_move_plan.proofs.Blank.{look_start, look_none, look_hit, look_next}

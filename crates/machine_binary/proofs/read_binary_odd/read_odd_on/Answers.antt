@@ -1,5 +1,4 @@
 -- `machine_binary::read_binary_odd::read_odd_on` meets its contract.
-use Prim.Native.Nat.{◌-◌}
 use borrow.Author.Tests.{lt-ltb, le-ltb, lt-leb, le-leb}
 use Rattle.machine_session.specs.Order.{in_order}
 use Rattle.machine_binary.specs.ReadBinaryOdd.{read_odd_on}

@@ -1,4 +1,3 @@
-use Prim.Native.Nat.{◌-◌}
 use native.Mathlib.Omega.{arith}
 use Rattle.objects_stamp.proofs.Contents.{allows_on, allows_no, allows_end}
 use Rattle.objects_stamp.proofs.chars.allows_all.Goals as goal
