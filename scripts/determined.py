@@ -5,7 +5,7 @@ theorems; here is checked that none is missing.
 
     scripts/determined.py          says which public function has no theorem
     scripts/determined.py --list   lists those that need none: they only print. They answer nothing and change nothing that is lent, and
-                                   their `ensures` is ⊤ₛ. docs/AUDIT.md names their crates, under "Is anything left open?"
+                                   their `ensures` says nothing. docs/AUDIT.md names their crates, under "Is anything left open?"
 """
 import collections
 import re
@@ -36,7 +36,7 @@ def functions():
                 body = next(i for i in range(at, len(lines)) if lines[i].rstrip() == '{')
                 head = ' '.join(x.strip() for x in lines[at:body])
                 name = '.'.join([m for m in module if m != 'lib'] + [match.group(1)])
-                prints = head.endswith(' ensures { λ _. ⊤ₛ }') and '->' not in head and '&mut' not in head
+                prints = head.endswith(' ensures { Unit {0} }') and '->' not in head and '&mut' not in head
                 found.append(Function(crate, name, f'{path.relative_to(ROOT)}:{at + 1}', prints))
     return found
 
