@@ -2,7 +2,7 @@
 """Runs the terminal and tests what the gate cannot: the exit status, standard error, what the card's file holds at each moment, what a stop,
 a command that is cut or one in links leaves in it, a terminal as standard input, and the script ./malquindo. Only Python's own library is used.
 
-usage: python3 tests/terminal/run.py [--stops N] [--seed N]      (after `rt check program_terminal`)
+usage: python3 tests/terminal/run.py [--stops N] [--seed N]      (after `./malquindo </dev/null`, which builds the program)
 """
 import argparse
 import os
@@ -21,7 +21,7 @@ sys.path.insert(0, os.path.dirname(os.path.abspath(__file__)))
 import cases
 from cases import section, to_try
 
-PROGRAM = os.path.join(cases.ROOT, "target", "bin", "program_terminal")
+PROGRAM = os.path.join(cases.CRATE, "out", "program_terminal")
 SCRIPT = os.path.join(cases.ROOT, "malquindo")
 NORMAL = b" 90 00 : Normal processing\n"
 
