@@ -16,7 +16,7 @@ LOOPS_LINE = '-- Not to be believed: only contracts of private functions and pro
 # name: what is defined; comment: the text above it and inside it; tags: the clauses named there
 Definition = collections.namedtuple('Definition', 'crate file line name comment tags')
 
-PUB = re.compile(r"^(?:unfoldable |abbrev |opaque )*pub (?:data |record )?([^\W\d][\w'′-]*)\s*(?::|\(|\{|$)")
+PUB = re.compile(r"^(?:unfoldable |abbrev |opaque )*pub (?:data |record )?([^\W\d][\w'-]*)\s*(?::|\(|\{|$)")
 DECLARED = re.compile(r'^pub (?:enum|struct|const) (\w+)')
 TAG = re.compile(r'\[([A-Z]{1,2}\d+)\]')
 

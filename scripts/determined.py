@@ -1,11 +1,11 @@
 #!/usr/bin/env python3
 """One outcome for every public function: its crate's proofs/Determined.antt has a theorem, `Determined`, or where a part is returned
-`Determined-part` or `Determined-address` (crates/base/specs/Determined.antt), of this function's own contract. The prover checks the
+`DeterminedPart` or `DeterminedAddress` (crates/base/specs/Determined.antt), of this function's own contract. The prover checks the
 theorems; here is checked that none is missing.
 
     scripts/determined.py          says which public function has no theorem
     scripts/determined.py --list   lists those that need none: they only print. They answer nothing and change nothing that is lent, and
-                                   their `ensures` is ⊤ₛ. docs/AUDIT.md names their crates, under "Is anything left open?"
+                                   their `ensures` says nothing. docs/AUDIT.md names their crates, under "Is anything left open?"
 """
 import collections
 import re
@@ -18,9 +18,9 @@ from definitions import ROOT
 Function = collections.namedtuple('Function', 'crate path place prints')
 
 PUBLIC = re.compile(r'^\s*pub (?:extern "C" )?fn (\w+)')
-USE = re.compile(r'^use Rattle·(\w+)·proofs\.proofs\.([\w.]+)\.(Kinds|Reads) as (\S+)$', re.M)
-FROM_BASE = re.compile(r'^use Rattle·(?:base\.specs|base·specs\.specs)\.Determined\.\{(.*)\}$', re.M)
-THEOREM = re.compile(r'^pub \S+ :\s+(?:(Determined)\s+(\S+)\.ps\s+(\S+)\.r|(Determined-part|Determined-address)\s+(\S+)\.ps)\s+(\S+)\.Post$', re.M)
+USE = re.compile(r'^use Rattle\.(\w+)\.proofs\.([\w.]+)\.(Kinds|Reads) as (\S+)$', re.M)
+FROM_BASE = re.compile(r'^use Rattle\.base\.specs\.Determined\.\{(.*)\}$', re.M)
+THEOREM = re.compile(r'^pub \S+ :\s+(?:(Determined)\s+(\S+)\.ps\s+(\S+)\.r|(DeterminedPart|DeterminedAddress)\s+(\S+)\.ps)\s+(\S+)\.Post$', re.M)
 SECTION = re.compile(r'^## Is anything left open\?.*?(?=^##)', re.M | re.S)
 
 
@@ -36,7 +36,7 @@ def functions():
                 body = next(i for i in range(at, len(lines)) if lines[i].rstrip() == '{')
                 head = ' '.join(x.strip() for x in lines[at:body])
                 name = '.'.join([m for m in module if m != 'lib'] + [match.group(1)])
-                prints = head.endswith(' ensures { λ _. ⊤ₛ }') and '->' not in head and '&mut' not in head
+                prints = head.endswith(' ensures { Unit {0} }') and '->' not in head and '&mut' not in head
                 found.append(Function(crate, name, f'{path.relative_to(ROOT)}:{at + 1}', prints))
     return found
 

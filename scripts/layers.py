@@ -21,7 +21,7 @@ LAYERS = {
     'promises': ('promises', 'malquindo machine objects store base', '#f6e7f4', '#8a3a80'),
     'program': ('program_: run by a person', 'malquindo machine objects store base', '#eceff3', '#4a5a70'),
     'test': ('test_: cases, run and compared', 'program malquindo machine objects store base', '#eceff3', '#4a5a70'),
-    'malquindo': ('malquindo', 'machine objects store base', '#fdeedd', '#a05a10'),
+    'malquindo': ('malquindo: as a library, and for C', 'machine objects store base', '#fdeedd', '#a05a10'),
     'machine': ('machine_: commands, rights, sessions, replies', 'objects store base', '#e4eefb', '#2a5a9a'),
     'store': ('store_: the card image, its files, the move', 'base', '#e5f4e7', '#2c7038'),
     'objects': ('objects_: data objects, read and written', 'base', '#fbf5d9', '#7d6608'),
@@ -45,7 +45,8 @@ def read_crates():
         line, _, comment = line.partition('#')
         crate, colon, others = line.partition(':')
         if colon:
-            names[crate.strip()], about[crate.strip()] = others.split(), comment.strip()
+            crate = crate.split()[0]         # a word behind it says what is built: staticlib
+            names[crate], about[crate] = others.split(), comment.strip()
     return {c: [o for o in others if o in names] for c, others in names.items()}, about
 
 

@@ -9,7 +9,7 @@ sys.dont_write_bytecode = True     # no files beside the scripts
 from definitions import ROOT, definitions_of, spec_files
 
 TYPE = re.compile(r'^pub (?:enum|struct) (\w+)')
-ALIAS = re.compile(r"([^\s{,]+) as ([^\W\d][\w'′-]*)")
+ALIAS = re.compile(r"([^\s{,]+) as ([^\W\d][\w'-]*)")
 
 
 def main():

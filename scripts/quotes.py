@@ -1,6 +1,6 @@
 #!/usr/bin/env python3
 """Holds docs/AUDIT.md to the files: each line of a quoted statement stands in crates/*/specs/ as it is quoted, and each name that is set in
-code font and begins like a statement (C-says-no, Leaves-none-out, Names) is one that crates/*/specs/ defines."""
+code font and begins like a statement (CSaysNo, LeavesNoneOut, Names) is one that crates/*/specs/ defines."""
 import re
 import sys
 
@@ -9,7 +9,7 @@ from definitions import ROOT, definitions_of, spec_files
 
 AUDIT = ROOT / 'docs' / 'AUDIT.md'
 QUOTED = re.compile(r'^```\n(.*?)^```', re.M | re.S)
-NAMED = re.compile(r'`([A-Z][A-Za-z]*(?:-[a-z]+)*)`')
+NAMED = re.compile(r'`([A-Z]\w*(?:-[a-z]+)*)`')
 # in code font, but no statement: kinds of file and commands
 OTHER = {'Form'}
 

@@ -4,8 +4,8 @@ tried here and not by the gate, because each costs some seconds; the gate tries 
 
     scripts/statements.py [NAME ..]     all of them, or those that are named
 
-Prints where each is refused. Needs the proved crates in target/ (rt check promises), and takes about five seconds for each."""
-import os
+Prints where each is refused. The copy begins with what `rt check` kept of these crates on this machine; run it in crates/promises before. One that
+the prover cannot read shows nothing, and counts as not refused."""
 import pathlib
 import re
 import shutil
@@ -27,6 +27,12 @@ def edited(text, edit):
     return text[:start] + text[start:end].replace(edit['old'], edit['new']) + text[end:]
 
 
+def checked(copy):
+    """Whether the prover accepts the copy, and what it says."""
+    run = subprocess.run(['rt', 'check'], cwd=copy / 'crates' / 'promises', capture_output=True, text=True)
+    return run.returncode == 0, run.stdout + run.stderr
+
+
 def refused(copy, path):
     """Whether the prover refuses the copy with this edit, and where; or why it could not be tried."""
     edit = dict(line.split(': ', 1) for line in path.read_text(encoding='utf-8').splitlines() if not line.startswith('#'))
@@ -36,13 +42,15 @@ def refused(copy, path):
         target.write_text(edited(text, edit), encoding='utf-8')
     except ValueError as problem:
         return False, str(problem)
-    run = subprocess.run(['rt', 'dev', 'promises'], cwd=copy, capture_output=True, text=True, env={**os.environ, 'RT_CUT': '0'})
+    good, said = checked(copy)
     target.write_text(text, encoding='utf-8')
-    errors = [line for line in (run.stdout + run.stderr).splitlines() if ': error: ' in line]
-    if run.returncode == 0 or not errors:
+    errors = [line for line in said.splitlines() if ': error: ' in line]
+    if good or not errors:
         return False, 'not refused'
     place, message = errors[0].split(': error: ', 1)
-    return True, f'{place.rsplit("/", 1)[-1]}, {message.split(":", 1)[0]}'
+    where = f'{place.rsplit("/", 1)[-1]}, {message.split(":", 1)[0]}'
+    unread = [line for line in errors if '/proofs/' not in line.split(': error: ', 1)[0]]
+    return (False, f'cannot be read: {unread[0]}') if unread else (True, where)
 
 
 def main():
@@ -51,9 +59,12 @@ def main():
     wrong = 0
     with tempfile.TemporaryDirectory() as folder:
         copy = pathlib.Path(folder) / 'copy'
-        for part in ('crates', 'target', 'crates.txt'):
-            source = ROOT / part
-            shutil.copytree(source, copy / part) if source.is_dir() else shutil.copy(source, copy / part)
+        shutil.copytree(ROOT / 'crates', copy / 'crates', ignore=shutil.ignore_patterns('out'))
+        shutil.copy(ROOT / 'crates.txt', copy)
+        good, said = checked(copy)
+        if not good:
+            print(said + 'crate promises is not proved as it stands, so no edit of it shows anything')
+            return 1
         for path in edits:
             good, text = refused(copy, path)
             wrong += not good

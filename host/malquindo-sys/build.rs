@@ -8,25 +8,30 @@ use std::time::SystemTime;
 /// Where the archive lies, from the repository's root.
 const ARCHIVE_DIR: &str = "target/staticlib";
 const ARCHIVE: &str = "libmalquindo.a";
-/// Where the code that it is made of lies, and how its files end.
-const CODE_DIR: &str = "crates";
+/// What makes it.
+const MAKER: &str = "scripts/archive";
+/// Where the crates lie that it is made of, the folder of each one's code, and how the files of code end.
+const CRATES_DIR: &str = "crates";
+const CODE_DIR: &str = "src";
 const CODE: &str = "rt";
 
 fn main() {
     let root = repository_root();
     let dir = root.join(ARCHIVE_DIR);
     let archive = dir.join(ARCHIVE);
-    let code = root.join(CODE_DIR);
-    if changed(&archive) < newest(&code) {
+    let code = code_dirs(&root.join(CRATES_DIR));
+    if Some(changed(&archive)) < code.iter().map(|dir| newest(dir)).max() {
         make_archive(&root);
     }
     assert!(
         archive.is_file(),
-        "`rt staticlib malquindo` ended well, yet {ARCHIVE_DIR}/{ARCHIVE} is not there"
+        "`{MAKER}` ended well, yet {ARCHIVE_DIR}/{ARCHIVE} is not there"
     );
     println!("cargo:rerun-if-changed=build.rs");
     println!("cargo:rerun-if-changed={}", archive.display());
-    println!("cargo:rerun-if-changed={}", code.display());
+    for dir in code {
+        println!("cargo:rerun-if-changed={}", dir.display());
+    }
     println!("cargo:rustc-link-search=native={}", dir.display());
     println!("cargo:rustc-link-lib=static=malquindo");
 }
@@ -42,6 +47,18 @@ fn changed(file: &Path) -> SystemTime {
     file.metadata()
         .and_then(|about| about.modified())
         .unwrap_or(SystemTime::UNIX_EPOCH)
+}
+
+/// The folders of code, one for each crate. What `rt` keeps beside them is none.
+fn code_dirs(crates: &Path) -> Vec<PathBuf> {
+    let Ok(entries) = crates.read_dir() else {
+        return Vec::new();
+    };
+    entries
+        .flatten()
+        .map(|entry| entry.path().join(CODE_DIR))
+        .filter(|dir| dir.is_dir())
+        .collect()
 }
 
 /// When the newest file of code in a folder was changed. A folder that cannot be read has none.
@@ -62,16 +79,10 @@ fn newest(dir: &Path) -> SystemTime {
 }
 
 fn make_archive(root: &Path) {
-    let outcome = Command::new("rt")
-        .args(["staticlib", "malquindo"])
-        .current_dir(root)
-        .status();
+    let outcome = Command::new(root.join(MAKER)).status();
     match outcome {
         Ok(status) if status.success() => {}
-        Ok(status) => panic!("`rt staticlib malquindo` failed in the repository's root: {status}"),
-        Err(error) => panic!(
-            "{ARCHIVE_DIR}/{ARCHIVE} is missing and `rt`, which makes it, cannot be run ({error}); \
-             run `rt staticlib malquindo` in the repository's root, the folder above host/"
-        ),
+        Ok(status) => panic!("`{MAKER}`, which makes {ARCHIVE_DIR}/{ARCHIVE} with the Rattle kit's `rt`, failed: {status}"),
+        Err(error) => panic!("`{MAKER}`, which makes {ARCHIVE_DIR}/{ARCHIVE}, cannot be run: {error}"),
     }
 }

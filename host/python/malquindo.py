@@ -3,7 +3,7 @@
 
 Only Python's standard library is used. Once, from the root of the repository:
 
-    rt staticlib malquindo                     # proves the library and writes the archive
+    scripts/archive                            # proves the library and writes the archive
     python3 host/python/malquindo.py build     # makes the shared object that Python loads
 
 The card to try (docs/RULES.md, T1), with its commands m1 to m4:
@@ -817,7 +817,7 @@ def shared_object() -> pathlib.Path:
 def build(archive: pathlib.Path = ARCHIVE, shared: pathlib.Path = SHARED) -> str:
     """Makes the shared object from the archive. Gives what went wrong, '' where nothing did."""
     if not archive.exists():
-        return f'{archive} is not there; in the root of the repository run: rt staticlib malquindo'
+        return f'{archive} is not there; in the root of the repository run: scripts/archive'
     # The new object takes the place of the old one when it is whole: a program that has the old one loaded keeps it.
     new = shared.with_suffix('.new')
     link = ['cc', '-shared', '-o', new, '-Wl,-z,noexecstack', '-Wl,--whole-archive', archive, '-Wl,--no-whole-archive']

@@ -1050,7 +1050,7 @@ class Build(unittest.TestCase):
     def test_no_archive(self):
         with tempfile.TemporaryDirectory() as folder:
             archive = pathlib.Path(folder) / 'libmalquindo.a'
-            self.assertIn('rt staticlib malquindo', malquindo.build(archive, archive.with_suffix('.so')))
+            self.assertIn('scripts/archive', malquindo.build(archive, archive.with_suffix('.so')))
             archive.write_bytes(b'no archive')
             self.assertIn('cc could not link', malquindo.build(archive, archive.with_suffix('.so')))
             self.assertFalse(archive.with_suffix('.so').exists())

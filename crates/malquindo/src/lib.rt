@@ -1,5 +1,5 @@
-// The machine for C and for what links like C. include/malquindo.h declares these functions. Every function takes any bytes; what it
-// writes must not overlap anything else that it is lent.
+// The machine as a library: what malquindo_c exports to C under these names, with these arguments and clauses. Every function takes any
+// bytes.
 #![tactic(auto)]
 
 ghost use Rattle.std.specs.Prelude.{◌≡◌, ◌≤◌, length};
@@ -79,8 +79,7 @@ fn keep(session: &mut [u8], status: usize, s: Session) -> bool
 }
 
 // How many bytes a session has.
-#[unsafe(no_mangle)]
-pub extern "C" fn malquindo_session_len() -> usize
+pub fn malquindo_session_len() -> usize
     ensures { result ≡ 1054 }
 {
     LENGTH
@@ -98,8 +97,7 @@ fn put_opened(session: &mut [u8], s: Session) -> bool
 }
 
 // Opens a session with the rights of three certificates.
-#[unsafe(no_mangle)]
-pub extern "C" fn malquindo_open(rights: &[u8], session: &mut [u8]) -> u64
+pub fn malquindo_open(rights: &[u8], session: &mut [u8]) -> u64
     ensures { (result ≡ open_result rights.now session.old) × (session.new ≡ open_session rights.now session.old) }
 {
     let a = machine::open(rights);
@@ -110,8 +108,7 @@ pub extern "C" fn malquindo_open(rights: &[u8], session: &mut [u8]) -> u64
 }
 
 // One command.
-#[unsafe(no_mangle)]
-pub extern "C" fn malquindo_command(
+pub fn malquindo_command(
     image: &mut [u8],
     session: &mut [u8],
     command: &[u8],
@@ -138,8 +135,7 @@ fn cut_result(v: Verdict, stores: usize) -> u64
 }
 
 // What a cut behind so many stores leaves of the image.
-#[unsafe(no_mangle)]
-pub extern "C" fn malquindo_cut(
+pub fn malquindo_cut(
     image: &mut [u8],
     session: &[u8],
     command: &[u8],
@@ -185,8 +181,7 @@ fn move_result(m: Moved) -> u64
 }
 
 // Moves a card to other rooms, into a target of its own.
-#[unsafe(no_mangle)]
-pub extern "C" fn malquindo_move(old: &[u8], list: &[u8], target: &mut [u8]) -> u64
+pub fn malquindo_move(old: &[u8], list: &[u8], target: &mut [u8]) -> u64
     ensures { (result ≡ move_result (move_card old.now list.now (length target.old))) × (target.new ≡ move_card_into old.now list.now target.old) }
 {
     let m = store_move::move_card(old, list, target);
@@ -204,8 +199,7 @@ fn found_result(f: Found) -> u64
 }
 
 // Where the body of a file stands in a card image.
-#[unsafe(no_mangle)]
-pub extern "C" fn malquindo_file(image: &[u8], kind: u16) -> u64
+pub fn malquindo_file(image: &[u8], kind: u16) -> u64
     ensures { result ≡ file_result image.now kind }
 {
     if !store_image::well_formed(image) {
@@ -268,8 +262,7 @@ fn certificate_result(l: Located) -> u64
 }
 
 // Where the certificate stands that a stamp's reference names: in the card's body, or in the desk's.
-#[unsafe(no_mangle)]
-pub extern "C" fn malquindo_certificate(card: &[u8], desk: &[u8], reference: u8) -> u64
+pub fn malquindo_certificate(card: &[u8], desk: &[u8], reference: u8) -> u64
     ensures { result ≡ certificate_result (located card.now desk.now reference) }
 {
     certificate_result(store_certificates::locate(card, desk, reference))
@@ -286,8 +279,7 @@ fn index_result(a: Indexed) -> u64
 }
 
 // Builds an index of the records of a file's body.
-#[unsafe(no_mangle)]
-pub extern "C" fn malquindo_index_build(kind: u16, body: &[u8], places: &mut [u32]) -> u64
+pub fn malquindo_index_build(kind: u16, body: &[u8], places: &mut [u32]) -> u64
     ensures { (result ≡ index_result (build kind body.now places.old)) × (places.new ≡ build_into kind body.now places.old) }
 {
     let a = store_index::build(kind as usize, body, places);
@@ -295,8 +287,7 @@ pub extern "C" fn malquindo_index_build(kind: u16, body: &[u8], places: &mut [u3
 }
 
 // Extends an index of n places after an append.
-#[unsafe(no_mangle)]
-pub extern "C" fn malquindo_index_extend(
+pub fn malquindo_index_extend(
     kind: u16,
     body: &[u8],
     places: &mut [u32],
@@ -309,8 +300,7 @@ pub extern "C" fn malquindo_index_extend(
 }
 
 // The length of the record of a number, by its place in an index.
-#[unsafe(no_mangle)]
-pub extern "C" fn malquindo_index_read(body: &[u8], places: &[u32], number: usize) -> u64
+pub fn malquindo_index_read(body: &[u8], places: &[u32], number: usize) -> u64
     ensures { result ≡ index_result (measure body.now places.now number) }
 {
     index_result(store_index::measure(body, places, number))
@@ -348,8 +338,7 @@ fn stamp_result(a: StampRead) -> u64
 }
 
 // Reads a record as a stamp: the places of its fields, or its first fault.
-#[unsafe(no_mangle)]
-pub extern "C" fn malquindo_stamp_read(record: &[u8], places: &mut [u32]) -> u64
+pub fn malquindo_stamp_read(record: &[u8], places: &mut [u32]) -> u64
     ensures { (result ≡ stamp_result (read_stamp «record».now places.old)) × (places.new ≡ read_stamp_into «record».now places.old) }
 {
     let a = objects_stamp::read_stamp(record, places);
@@ -387,8 +376,7 @@ fn rights_result(a: RightsRead) -> u64
 }
 
 // Reads the rights of three certificates from their extensions: the bytes that an opening takes.
-#[unsafe(no_mangle)]
-pub extern "C" fn malquindo_rights(
+pub fn malquindo_rights(
     first: &[u8],
     second: &[u8],
     third: &[u8],
