@@ -2,7 +2,7 @@
 """Runs the terminal and tests what the gate cannot: the exit status, standard error, what the card's file holds at each moment, what a stop,
 a command that is cut or one in links leaves in it, a terminal as standard input, and the script ./malquindo. Only Python's own library is used.
 
-usage: python3 tests/terminal/run.py [--stops N] [--seed N]      (after `rt check program_terminal`)
+usage: python3 tests/terminal/run.py [--stops N] [--seed N]      (after `rt run -- --help` in crates/program_terminal)
 """
 import argparse
 import os
@@ -21,21 +21,15 @@ sys.path.insert(0, os.path.dirname(os.path.abspath(__file__)))
 import cases
 from cases import section, to_try
 
-PROGRAM = os.path.join(cases.ROOT, "target", "bin", "program_terminal")
+PROGRAM = os.path.join(cases.ROOT, "crates", "program_terminal", "out", "program_terminal")
 SCRIPT = os.path.join(cases.ROOT, "malquindo")
 NORMAL = b" 90 00 : Normal processing\n"
 
 
 def run(folder, stdin, *arguments, **more):
     """Runs the program with its status asked. Answers status, standard output, standard error."""
-    told = os.path.join(folder, "told-status")
-    done = subprocess.run(["sh", "-c", 'exec "$0" --status "$@" 3>told-status', PROGRAM, *arguments], cwd=folder, input=stdin,
-                          capture_output=True, timeout=60, **more)
-    with open(told) as f:
-        status = f.read()
-    os.unlink(told)
-    assert done.returncode == 0, done
-    return int(status), done.stdout.decode(), done.stderr.decode()
+    done = subprocess.run([PROGRAM, "--status", *arguments], cwd=folder, input=stdin, capture_output=True, timeout=60, **more)
+    return done.returncode, done.stdout.decode(), done.stderr.decode()
 
 
 def write(folder, name, content):
