@@ -1,8 +1,13 @@
--- Every public function of this crate that answers something has one outcome; the others print. Read before: specs/Determined.antt of base.
+-- Every public function of this crate that answers something has one outcome; the others print, and `read_full` reads. Read before:
+-- specs/Determined.antt of base.
 use mathlib.Core.Path.{sym, ◌∙◌}
 use Rattle.base.specs.Determined.{Determined}
 use Rattle.program_console.proofs.room.Kinds as room-kinds
 use Rattle.program_console.proofs.room.Reads as room-reads
+use Rattle.program_console.proofs.buffer.Kinds as buffer-kinds
+use Rattle.program_console.proofs.buffer.Reads as buffer-reads
+use Rattle.program_console.proofs.large_buffer.Kinds as large-buffer-kinds
+use Rattle.program_console.proofs.large_buffer.Reads as large-buffer-reads
 use Rattle.program_console.proofs.cases.next.Kinds as next-kinds
 use Rattle.program_console.proofs.cases.next.Reads as next-reads
 use Rattle.program_console.proofs.result.refusal.Kinds as result-refusal-kinds
@@ -32,6 +37,12 @@ use Rattle.program_console.proofs.result.stamp_offset.Reads as stamp-offset-read
 
 pub room_determined : Determined room-kinds.ps room-kinds.r room-reads.Post
 room_determined κs a e f p q i = ((p ∙ sym q) i, e.1)
+
+pub buffer_determined : Determined buffer-kinds.ps buffer-kinds.r buffer-reads.Post
+buffer_determined κs a e f p q i = ((p ∙ sym q) i, e.1)
+
+pub large-buffer_determined : Determined large-buffer-kinds.ps large-buffer-kinds.r large-buffer-reads.Post
+large-buffer_determined κs a e f p q i = ((p ∙ sym q) i, e.1)
 
 pub next_determined : Determined next-kinds.ps next-kinds.r next-reads.Post
 next_determined κs a e f p q i = ((p.0 ∙ sym q.0) i, e.1)

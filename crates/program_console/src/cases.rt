@@ -3,15 +3,16 @@ ghost use Rattle.std.specs.Prelude.{◌≡◌, ◌-◌, ◌<◌, length, leb};
 ghost use Rattle.base.specs.Choice.{if_else};
 
 use crate::word;
+use std::io::Stdout;
 
 // Where the next case of s begins, when the one at `at` leaves `left` bytes behind it. A case that is torn or unknown leaves no fewer
 // bytes than stood there: then a line says so, and the answer is the end of s.
-pub fn next(s: &[u8], at: usize, left: usize) -> usize
+pub fn next(out: Stdout, s: &[u8], at: usize, left: usize) -> usize
     ensures { (result ≡ if_else (leb (length s.now - at) left) (length s.now) (length s.now - left)) × (at < length s.now → at < result) }
 {
     let n = s.len();
     if base::natural::saturating_sub(n, at) <= left {
-        word(b"a torn or unknown case\n");
+        word(out, b"a torn or unknown case\n");
         return n;
     }
     n - left

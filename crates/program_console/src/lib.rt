@@ -1,57 +1,60 @@
 // What programs write with: answers to standard output as words, numbers in decimal and bytes in hexadecimal, and what is wrong to standard
-// error. A contract here says nothing of what is written, for the logic does not speak of it; the gate compares the answers.
+// error. A contract here says nothing of what is written, for the logic does not speak of it; the gate compares the answers. A write that
+// fails is passed over: there is no other place where it could be told.
 #![tactic(auto)]
 
 pub mod cases;
 pub mod result;
 pub mod words;
 
-ghost use Rattle.std.specs.Prelude.{◌≡◌, ◌≤◌, replicate};
+ghost use Rattle.std.specs.Prelude.{◌≡◌, ◌≤◌, length, replicate};
+
+use std::io::{Read, Stderr, Stdin, Stdout};
 
 // Writes a word.
-pub fn word(s: &[u8])
+pub fn word(out: Stdout, s: &[u8])
     ensures { Unit {0} }
 {
-    io::write_all(1, s);
+    let _ = out.write_all(s);
 }
 
 // Writes a word to standard error: what is wrong, apart from the answers.
-pub fn warn(s: &[u8])
+pub fn warn(err: Stderr, s: &[u8])
     ensures { Unit {0} }
 {
-    io::write_all(2, s);
+    let _ = err.write_all(s);
 }
 
 // Ends the line.
-pub fn end()
+pub fn end(out: Stdout)
     ensures { Unit {0} }
 {
-    word(b"\n");
+    word(out, b"\n");
 }
 
 // Writes a number.
-pub fn number(n: u64)
+pub fn number(out: Stdout, n: u64)
     ensures { Unit {0} }
 {
-    io::print_decimal(1, n);
+    let _ = out.print(n);
 }
 
 // Writes a space and a number.
-pub fn field(n: usize)
+pub fn field(out: Stdout, n: usize)
     ensures { Unit {0} }
 {
-    word(b" ");
-    number(n as u64);
+    word(out, b" ");
+    number(out, n as u64);
 }
 
 // Writes a space and 1 for yes, 0 for no.
-pub fn flag(yes: bool)
+pub fn flag(out: Stdout, yes: bool)
     ensures { Unit {0} }
 {
     if yes {
-        word(b" 1");
+        word(out, b" 1");
     } else {
-        word(b" 0");
+        word(out, b" 0");
     }
 }
 
@@ -69,7 +72,7 @@ fn digit(n: u8, capital: bool) -> u8 {
 
 // Writes the first 1,024 bytes of s, or all where there are fewer, with `gap` spaces before each. They are written at once, since each
 // write is a call of the system.
-fn some(s: &[u8], capital: bool, gap: usize)
+fn some(out: Stdout, s: &[u8], capital: bool, gap: usize)
     requires { gap ≤ 1 }
 {
     let mut text = [32; 3072];
@@ -77,7 +80,7 @@ fn some(s: &[u8], capital: bool, gap: usize)
     let mut i = 0;
     while i < 1024 {
         if s.len() <= i {
-            io::write_all(1, &text[..at]);
+            word(out, &text[..at]);
             return;
         }
         at += gap;
@@ -86,16 +89,16 @@ fn some(s: &[u8], capital: bool, gap: usize)
         at += 2;
         i += 1;
     }
-    io::write_all(1, &text[..at]);
+    word(out, &text[..at]);
 }
 
 // Writes the bytes of s in hexadecimal, with `gap` spaces before each.
-fn hexadecimal(s: &[u8], capital: bool, gap: usize)
+fn hexadecimal(out: Stdout, s: &[u8], capital: bool, gap: usize)
     requires { gap ≤ 1 }
 {
     let mut at = 0;
     while at < s.len() {
-        some(base::part(s, at, 1024), capital, gap);
+        some(out, base::part(s, at, 1024), capital, gap);
         if s.len() - at <= 1024 {
             return;
         }
@@ -104,21 +107,21 @@ fn hexadecimal(s: &[u8], capital: bool, gap: usize)
 }
 
 // Writes a space and the bytes of s, `-` where there are none.
-pub fn bytes(s: &[u8])
+pub fn bytes(out: Stdout, s: &[u8])
     ensures { Unit {0} }
 {
-    word(b" ");
+    word(out, b" ");
     if s.len() == 0 {
-        word(b"-");
+        word(out, b"-");
     }
-    hexadecimal(s, false, 0);
+    hexadecimal(out, s, false, 0);
 }
 
 // Writes the bytes of s as card tools do, a space before each.
-pub fn spell(s: &[u8])
+pub fn spell(out: Stdout, s: &[u8])
     ensures { Unit {0} }
 {
-    hexadecimal(s, true, 1);
+    hexadecimal(out, s, true, 1);
 }
 
 // Room for all input, or for a card's image: more than the largest has, so that a file that is too long is known.
@@ -126,4 +129,32 @@ pub fn room() -> [u8; 524288]
     ensures { result ≡ replicate 524288 0 }
 {
     [0; 524288]
+}
+
+// Room for a path, or for a command and its response.
+pub fn buffer() -> [u8; 4096]
+    ensures { result ≡ replicate 4096 0 }
+{
+    [0; 4096]
+}
+
+// Room for a line of the input.
+pub fn large_buffer() -> [u8; 65536]
+    ensures { result ≡ replicate 65536 0 }
+{
+    [0; 65536]
+}
+
+// Reads standard input until `out` is full, the input ends or a read fails. Answers how many bytes stand at the start of `out` then.
+pub fn read_full(mut input: Stdin, out: &mut [u8]) -> usize
+    ensures { result ≤ length out.new }
+{
+    let mut have = 0;
+    while have < out.len() {
+        match input.read(&mut out[have..]) {
+            Ok(n) if 0 < n => have += n,
+            _ => return have,
+        }
+    }
+    have
 }

@@ -3,26 +3,34 @@
 use crate::status::Ended;
 use crate::{hex, rights, status, text};
 use program_console::{result, words};
+use std::io::{Stderr, Stdout};
 
 // Says why a call was refused.
-fn refused(r: u64) -> usize {
-    words::refusal(result::refusal(r));
+fn refused(err: Stderr, r: u64) -> usize {
+    words::refusal(err, result::refusal(r));
     status::REFUSED
 }
 
 // Opens a session with what three runs give, and says what it may do. Where they are refused, that is 60 zeros: a session without rights.
-fn open(first: &[u8], second: &[u8], third: &[u8], session: &mut [u8]) -> usize {
+fn open(
+    out: Stdout,
+    err: Stderr,
+    first: &[u8],
+    second: &[u8],
+    third: &[u8],
+    session: &mut [u8],
+) -> usize {
     let mut chain = [0; 60];
     let r = malquindo::malquindo_rights(first, second, third, &mut chain);
     let o = malquindo::malquindo_open(&chain, session);
     if r != 0 {
-        return refused(r);
+        return refused(err, r);
     }
     if o != 0 {
-        return refused(o);
+        return refused(err, o);
     }
-    program_console::word(b"= session opened\n");
-    rights::tell(session);
+    program_console::word(out, b"= session opened\n");
+    rights::tell(out, session);
     status::GOOD
 }
 
@@ -39,10 +47,17 @@ fn decode(word: &[u8], out: &mut [u8]) -> usize {
 }
 
 // Opens a session with three words, where each is a run.
-fn open_words(first: &[u8], second: &[u8], third: &[u8], session: &mut [u8]) -> Ended {
-    let mut a = io::large_buffer();
-    let mut b = io::large_buffer();
-    let mut c = io::large_buffer();
+fn open_words(
+    out: Stdout,
+    err: Stderr,
+    first: &[u8],
+    second: &[u8],
+    third: &[u8],
+    session: &mut [u8],
+) -> Ended {
+    let mut a = program_console::large_buffer();
+    let mut b = program_console::large_buffer();
+    let mut c = program_console::large_buffer();
     let i = decode(first, &mut a);
     let j = decode(second, &mut b);
     let k = decode(third, &mut c);
@@ -50,6 +65,8 @@ fn open_words(first: &[u8], second: &[u8], third: &[u8], session: &mut [u8]) -> 
         return status::unread();
     }
     status::read(open(
+        out,
+        err,
         base::part(&a, 0, i),
         base::part(&b, 0, j),
         base::part(&c, 0, k),
@@ -58,7 +75,7 @@ fn open_words(first: &[u8], second: &[u8], third: &[u8], session: &mut [u8]) -> 
 }
 
 // The line of three certificates, behind its first word.
-pub(crate) fn line(s: &[u8], session: &mut [u8]) -> Ended {
+pub(crate) fn line(out: Stdout, err: Stderr, s: &[u8], session: &mut [u8]) -> Ended {
     let first = text::start(s, 0);
     let second = text::next(s, first);
     let third = text::next(s, second);
@@ -69,6 +86,8 @@ pub(crate) fn line(s: &[u8], session: &mut [u8]) -> Ended {
         return status::unread();
     }
     open_words(
+        out,
+        err,
         text::word(s, first),
         text::word(s, second),
         text::word(s, third),

@@ -1,56 +1,114 @@
-// Files that are open: read until they end, and written at a place.
-ghost use Rattle.std.specs.Prelude.{◌≤◌, length};
+// Files: by name, read until they end, and written at a place; and why one cannot be used.
+ghost use Rattle.std.specs.Prelude.{◌≤◌, length, IfOk};
 
-// More bytes than any room here has: what a read that failed answers.
+use crate::text;
+use std::fs::{File, OpenOptions};
+use std::io::{Cursor, Error, Read, Seek, SeekFrom, Stderr, Write};
+use std::rt::Files;
+use std::{fs, io};
+
+// More bytes than any room here has: the length of a card that is not there.
 pub(crate) const FAILED: usize = 1000000;
 
-// How many bytes one read brought; none at the end of the file and where the read failed.
-#[derive(Clone, Copy)]
-pub(crate) struct Got {
-    pub(crate) n: usize,
-    pub(crate) failed: bool,
-}
+// The longest name that the system takes, and its errors for one that is longer and for one with a byte 0.
+const LONGEST_NAME: usize = 4095;
 
-// One read, to the start of room.
-pub(crate) fn more(fd: i32, room: &mut [u8]) -> Got
-    ensures { result.n ≤ length room.new }
-{
-    let got = libc::read(fd, room);
-    Got {
-        n: io::count(got, room),
-        failed: got < 0,
+const INVALID: i32 = 22;
+
+const TOO_LONG: i32 = 36;
+
+// The path that a name is.
+fn path(name: &[u8]) -> io::Result<&str> {
+    if LONGEST_NAME < name.len() {
+        return Err(Error::from_raw_os_error(TOO_LONG));
+    }
+    if text::find(name, 0, 0) < name.len() {
+        return Err(Error::from_raw_os_error(INVALID));
+    }
+    match std::str::from_utf8(name) {
+        Ok(path) => Ok(path),
+        Err(_) => Err(Error::other("The name is not UTF-8")),
     }
 }
 
-// Reads until the file ends or out is full. Answers how many bytes that were, or FAILED.
-pub(crate) fn whole(fd: i32, out: &mut [u8]) -> usize {
+// Opens a file to be read.
+pub(crate) fn open_read(rt: &impl Files<File = File>, name: &[u8]) -> io::Result<File> {
+    let path = path(name)?;
+    fs::open(rt, path)
+}
+
+// Opens a file to be read and written.
+pub(crate) fn open_update(rt: &impl Files<File = File>, name: &[u8]) -> io::Result<File> {
+    let path = path(name)?;
+    OpenOptions::new().read(true).write(true).open(rt, path)
+}
+
+// Makes a file, to be written, where there is none of its name.
+pub(crate) fn create(rt: &impl Files<File = File>, name: &[u8]) -> io::Result<File> {
+    let path = path(name)?;
+    OpenOptions::new()
+        .write(true)
+        .create_new(true)
+        .open(rt, path)
+}
+
+// Removes a file.
+pub(crate) fn remove(rt: &impl Files<File = File>, name: &[u8]) -> io::Result<()> {
+    let path = path(name)?;
+    fs::remove_file(rt, path)
+}
+
+// One read, to the start of room. Answers how many bytes it brought, none at the end of the file.
+pub(crate) fn more(from: &mut impl Read, room: &mut [u8]) -> io::Result<usize>
+    ensures { IfOk result (λ n. n ≤ length room.new) }
+{
+    from.read(room)
+}
+
+// Reads until the file ends or out is full. Answers how many bytes that were.
+pub(crate) fn whole(mut file: &File, out: &mut [u8]) -> io::Result<usize> {
     let mut have = 0;
     while have < out.len() {
-        let got = more(fd, &mut out[have..]);
-        if got.failed {
-            return FAILED;
+        let n = more(&mut file, &mut out[have..])?;
+        if n == 0 {
+            return Ok(have);
         }
-        if got.n == 0 {
-            return have;
-        }
-        have += got.n;
+        have += n;
     }
-    have
+    Ok(have)
 }
 
-// Writes bytes at a place, and waits until the device has them. Answers whether it has.
-pub(crate) fn write_at(fd: i32, at: usize, bytes: &[u8]) -> bool {
+// Writes bytes at a place, and waits until the device has them.
+pub(crate) fn write_at(mut file: &File, at: usize, bytes: &[u8]) -> io::Result<()> {
     if bytes.len() == 0 {
-        return true;
+        return Ok(());
     }
-    if FAILED < at {
-        return false;
+    file.seek(SeekFrom::Start(at as u64))?;
+    file.write_all(bytes)?;
+    file.sync_data()
+}
+
+// How much of the text of an error stands before the system's number of it.
+fn before_number(s: &[u8]) -> usize {
+    let mut i = 0;
+    while i < s.len() {
+        if text::starts(base::part(s, i, s.len()), b" (os error ") {
+            return i;
+        }
+        i += 1;
     }
-    if libc::lseek(fd, at as i64, libc::SEEK_SET) < 0 {
-        return false;
-    }
-    if !io::write_all(fd, bytes) {
-        return false;
-    }
-    libc::fdatasync(fd) == 0
+    i
+}
+
+// Writes a line to standard error: what failed, as the caller names it, a colon and the reason.
+pub(crate) fn fail(err: Stderr, what: &[u8], error: Error) {
+    let mut said = Cursor::new([0; 256]);
+    let _ = write!(said, "{error}");
+    let n = said.position() as usize;
+    let room = said.into_inner();
+    let reason = base::part(&room, 0, n);
+    program_console::warn(err, what);
+    program_console::warn(err, b": ");
+    program_console::warn(err, base::part(reason, 0, before_number(reason)));
+    program_console::warn(err, b"\n");
 }

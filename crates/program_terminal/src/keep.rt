@@ -3,6 +3,9 @@
 ghost use Rattle.std.specs.Prelude.{◌≤◌};
 
 use crate::files;
+use std::fs::File;
+use std::io;
+use std::io::Stderr;
 use store_records::little::{read16, read32};
 
 // The longest image.
@@ -56,36 +59,38 @@ fn head_end(image: &[u8], place: usize) -> usize {
 }
 
 // Writes what stands from `from` to `end`; nothing where the end is not behind the start.
-fn write(fd: i32, image: &[u8], from: usize, end: usize) -> bool {
+fn write(file: &File, image: &[u8], from: usize, end: usize) -> io::Result<()> {
     files::write_at(
-        fd,
+        file,
         from,
         base::part(image, from, base::natural::saturating_sub(end, from)),
     )
 }
 
-// Writes what differs from `from` to `end`, with the head last. Answers whether the file has all of it.
-fn write_change(fd: i32, image: &[u8], from: usize, end: usize) -> bool {
+// Writes what differs from `from` to `end`, with the head last.
+fn write_change(file: &File, image: &[u8], from: usize, end: usize) -> io::Result<()> {
     let behind_head = head_end(image, from);
     if behind_head <= from {
-        return write(fd, image, from, end);
+        return write(file, image, from, end);
     }
-    if !write(fd, image, behind_head, end) {
-        return false;
-    }
-    write(fd, image, from, base::natural::min(behind_head, end))
+    write(file, image, behind_head, end)?;
+    write(file, image, from, base::natural::min(behind_head, end))
 }
 
-// Keeps what a command changed: `old` is what the file holds, and becomes `new`. Answers whether the file has it.
-pub(crate) fn change(fd: i32, old: &mut [u8], new: &[u8]) -> bool {
-    if fd < 0 {
+// Keeps what a command changed: `old` is what the file holds, and becomes `new`. Answers whether the file has it; without a file there is
+// nothing to keep.
+pub(crate) fn change(err: Stderr, file: Option<&File>, old: &mut [u8], new: &[u8]) -> bool {
+    let Some(file) = file else {
         return true;
-    }
+    };
     let from = first(old, new);
     let end = behind_last(old, new, from);
-    if !write_change(fd, new, from, end) {
-        program_console::warn(b"! the change is not kept, so the command is not answered: ");
-        os::fail(b"the card's file cannot be written");
+    if let Err(error) = write_change(file, new, from, end) {
+        program_console::warn(
+            err,
+            b"! the change is not kept, so the command is not answered: ",
+        );
+        files::fail(err, b"the card's file cannot be written", error);
         return false;
     }
     base::put(

@@ -22,18 +22,32 @@ mod stamps;
 mod status;
 mod text;
 
-use lines::How;
+ghost use Rattle.std.specs.Prelude.{◌≤◌, length};
+
+use lines::{How, Streams};
+use std::env::FillError;
+use std::fs::File;
+use std::io::{IsTerminal, Stdin, Stdout};
+use std::process::ExitCode;
+use std::rt::{Env, Files};
 
 // Whether what is typed stands on the terminal already.
-fn is_typed() -> bool {
-    if libc::isatty(0) != 1 {
+fn is_typed(input: Stdin, out: Stdout) -> bool {
+    if !input.is_terminal() {
         return false;
     }
-    libc::isatty(1) == 1
+    out.is_terminal()
 }
 
 // Answers the lines on a card of n bytes, with room for its image and for what its file holds. Answers how that ended.
-fn run_card(image: &mut [u8], kept: &mut [u8], fd: i32, n: usize) -> usize {
+fn run_card(
+    rt: &impl Files<File = File>,
+    streams: Streams,
+    image: &mut [u8],
+    kept: &mut [u8],
+    file: Option<&File>,
+    n: usize,
+) -> usize {
     if image.len() < n {
         return status::NO_CARD;
     }
@@ -42,58 +56,109 @@ fn run_card(image: &mut [u8], kept: &mut [u8], fd: i32, n: usize) -> usize {
     }
     base::put(kept, 0, base::part(image, 0, n));
     let how = How {
-        fd,
-        echo: !is_typed(),
+        out: streams.out,
+        err: streams.err,
+        file,
+        echo: !is_typed(streams.input, streams.out),
     };
-    input::answer_all(&mut image[..n], &mut kept[..n], how)
+    input::answer_all(rt, streams.input, &mut image[..n], &mut kept[..n], how)
 }
 
 // Runs with an argument.
-fn run_argument(argument: &[u8], image: &mut [u8], kept: &mut [u8]) -> usize {
+fn run_argument(
+    rt: &impl Files<File = File>,
+    streams: Streams,
+    argument: &[u8],
+    image: &mut [u8],
+    kept: &mut [u8],
+) -> usize {
     if text::is(argument, b"--help") {
-        help::usage();
+        help::usage(streams.out);
         return status::GOOD;
     }
-    let c = card::load(argument, image);
-    run_card(image, kept, c.fd, c.len)
+    let c = card::load(rt, streams.err, argument, image);
+    run_card(rt, streams, image, kept, c.file.as_ref(), c.len)
+}
+
+// Whether there is an argument i; the first is the program's name.
+fn has_argument(rt: &impl Env, i: usize) -> bool {
+    let mut none = [0; 1];
+    !matches!(rt.arg(i, &mut none), Err(FillError::NotPresent))
+}
+
+// How many arguments there are.
+fn argument_count(rt: &impl Env) -> usize {
+    for i in 0..usize::MAX {
+        if !has_argument(rt, i) {
+            return i;
+        }
+    }
+    usize::MAX
+}
+
+// Puts an argument at the start of `out`. Answers its length, 0 where it is missing or longer than that.
+fn argument(rt: &impl Env, i: usize, out: &mut [u8]) -> usize
+    ensures { result ≤ length out.new }
+{
+    match rt.arg(i, out) {
+        Ok(n) => n,
+        Err(_) => 0,
+    }
 }
 
 // Runs with the argument at `first`, where there is one.
-fn run(first: usize, image: &mut [u8], kept: &mut [u8]) -> usize {
-    let count = os::arg_count();
+fn run(
+    rt: &(impl Env + Files<File = File>),
+    streams: Streams,
+    first: usize,
+    image: &mut [u8],
+    kept: &mut [u8],
+) -> usize {
+    let count = argument_count(rt);
     if count <= first {
         let c = card::example(image);
-        return run_card(image, kept, c.fd, c.len);
+        return run_card(rt, streams, image, kept, c.file.as_ref(), c.len);
     }
     if first < count - 1 {
-        program_console::warn(b"! one card at a time: there is more than one argument\n");
+        program_console::warn(
+            streams.err,
+            b"! one card at a time: there is more than one argument\n",
+        );
         return status::NO_CARD;
     }
-    let mut argument = io::buffer();
-    let n = os::arg(first, &mut argument);
-    run_argument(&argument[..n], image, kept)
+    let mut name = program_console::buffer();
+    let n = argument(rt, first, &mut name);
+    run_argument(rt, streams, &name[..n], image, kept)
 }
 
-// Whether the first argument asks for the exit status on descriptor 3. A Rattle program cannot end with a status, so the script that starts this
-// one reads it there.
-fn tells_status() -> bool {
-    let mut argument = io::buffer();
-    let n = os::arg(1, &mut argument);
-    text::is(&argument[..n], b"--status")
+// Whether the first argument asks for the exit status.
+fn tells_status(rt: &impl Env) -> bool {
+    let mut first = program_console::buffer();
+    let n = argument(rt, 1, &mut first);
+    text::is(&first[..n], b"--status")
 }
 
-// Runs, and says how it ended where that is asked.
-fn start(image: &mut [u8], kept: &mut [u8]) {
-    if tells_status() {
-        let digit = [(48 + run(2, image, kept) % 3) as u8];
-        io::write_all(3, &digit);
-        return;
+// Runs. Answers the exit status: how it ended where that is asked, and else 0.
+fn start(
+    rt: &(impl Env + Files<File = File>),
+    streams: Streams,
+    image: &mut [u8],
+    kept: &mut [u8],
+) -> ExitCode {
+    if tells_status(rt) {
+        return ExitCode::from((run(rt, streams, 2, image, kept) % 3) as u8);
     }
-    run(1, image, kept);
+    run(rt, streams, 1, image, kept);
+    ExitCode::SUCCESS
 }
 
-fn main() {
+fn main(rt: HostRuntime) -> ExitCode {
+    let streams = Streams {
+        input: rt.stdin(),
+        out: rt.stdout(),
+        err: rt.stderr(),
+    };
     let mut image = program_console::room();
     let mut kept = program_console::room();
-    start(&mut image, &mut kept);
+    start(&rt, streams, &mut image, &mut kept)
 }

@@ -1,7 +1,11 @@
 // A move of the card to a new file: `move FILE KIND LENGTH KIND LENGTH ...`, each kind in hexadecimal, the length of its room in decimal.
 use crate::status::Ended;
-use crate::{hex, listing, status, text};
+use crate::{files, hex, listing, status, text};
 use program_console::{result, words};
+use std::fs::File;
+use std::io;
+use std::io::{Error, Stderr, Stdout, Write};
+use std::rt::Files;
 
 // More rows than a card has kinds.
 const MOST: usize = 100;
@@ -49,52 +53,75 @@ fn rows(s: &[u8], from: usize, list: &mut [u8]) -> usize {
     MOST
 }
 
-// Writes the new card's image whole, and waits until the device has it. Answers whether it has.
-fn write(fd: i32, bytes: &[u8]) -> bool {
-    if !io::write_all(fd, bytes) {
-        return false;
-    }
-    libc::fsync(fd) == 0
+// Writes the new card's image whole, and waits until the device has it.
+fn write(mut file: &File, bytes: &[u8]) -> io::Result<()> {
+    file.write_all(bytes)?;
+    file.sync_all()
 }
 
 // Says that a new card's file is not there, and why.
-fn not_made(name: &[u8]) -> usize {
-    program_console::warn(b"! the new card's file cannot be made: ");
-    os::fail(name);
+fn not_made(err: Stderr, name: &[u8], error: Error) -> usize {
+    program_console::warn(err, b"! the new card's file cannot be made: ");
+    files::fail(err, name, error);
     status::REFUSED
 }
 
 // Makes a file of the new card's image, and says what it holds. A file that is not whole is removed.
-fn save(name: &[u8], bytes: &[u8]) -> usize {
-    let fd = os::create(name);
-    if fd < 0 {
-        return not_made(name);
-    }
-    if !write(fd, bytes) {
-        not_made(name);
-        libc::close(fd);
-        os::unlink(name);
+fn save(
+    rt: &impl Files<File = File>,
+    out: Stdout,
+    err: Stderr,
+    name: &[u8],
+    bytes: &[u8],
+) -> usize {
+    let file = match files::create(rt, name) {
+        Ok(file) => file,
+        Err(error) => return not_made(err, name, error),
+    };
+    let written = write(&file, bytes);
+    drop(file);
+    if let Err(error) = written {
+        not_made(err, name, error);
+        let _ = files::remove(rt, name);
         return status::REFUSED;
     }
-    libc::close(fd);
-    program_console::word(b"= moved to a new file\n");
-    listing::card(bytes);
+    program_console::word(out, b"= moved to a new file\n");
+    listing::card(out, bytes);
     status::GOOD
 }
 
 // Moves the card to a new file.
-fn move_to(name: &[u8], list: &[u8], image: &[u8]) -> usize {
+fn move_to(
+    rt: &impl Files<File = File>,
+    out: Stdout,
+    err: Stderr,
+    name: &[u8],
+    list: &[u8],
+    image: &[u8],
+) -> usize {
     let mut target = program_console::room();
     let r = malquindo::malquindo_move(image, list, &mut target);
     if result::refusal(r) != 0 {
-        words::refusal(result::refusal(r));
+        words::refusal(err, result::refusal(r));
         return status::REFUSED;
     }
-    save(name, base::part(&target, 0, result::moved_length(r)))
+    save(
+        rt,
+        out,
+        err,
+        name,
+        base::part(&target, 0, result::moved_length(r)),
+    )
 }
 
 // A move's line, behind its first word.
-pub(crate) fn line(s: &[u8], image: &[u8]) -> Ended {
+pub(crate) fn line(
+    rt: &impl Files<File = File>,
+    out: Stdout,
+    err: Stderr,
+    s: &[u8],
+    image: &[u8],
+) -> Ended {
     let at = text::start(s, 0);
     let mut list = [0; 600];
     let n = rows(s, text::next(s, at), &mut list);
@@ -104,5 +131,12 @@ pub(crate) fn line(s: &[u8], image: &[u8]) -> Ended {
     if s.len() <= at {
         return status::unread();
     }
-    status::read(move_to(text::word(s, at), base::part(&list, 0, n * 6), image))
+    status::read(move_to(
+        rt,
+        out,
+        err,
+        text::word(s, at),
+        base::part(&list, 0, n * 6),
+        image,
+    ))
 }

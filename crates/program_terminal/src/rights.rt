@@ -2,6 +2,7 @@
 // as in `travel=read,append`; or that of a biometrics file, as in `biometrics5=write`. To name an application sets its flag, by which it
 // may be selected. What is told can be given to `open` again.
 use crate::{hex, text};
+use std::io::Stdout;
 
 // What a name has rights for: nothing; records and certificates; certificates alone; a biometrics file.
 const NOTHING: usize = 0;
@@ -193,50 +194,50 @@ pub(crate) fn read(s: &[u8], rights: &mut [u8]) -> bool {
 }
 
 // The word of a bit that is a right to records or certificates.
-fn record_word(bit: usize) {
+fn record_word(out: Stdout, bit: usize) {
     match bit {
-        0 => program_console::word(b"read"),
-        1 => program_console::word(b"append"),
-        2 => program_console::word(b"read-certificates"),
-        _ => program_console::word(b"append-certificates"),
+        0 => program_console::word(out, b"read"),
+        1 => program_console::word(out, b"append"),
+        2 => program_console::word(out, b"read-certificates"),
+        _ => program_console::word(out, b"append-certificates"),
     }
 }
 
 // The word of a bit.
-fn bit_word(kind: usize, bit: usize) {
+fn bit_word(out: Stdout, kind: usize, bit: usize) {
     if kind == RECORDS {
-        record_word(bit);
+        record_word(out, bit);
         return;
     }
     if kind == CERTIFICATES {
-        record_word(bit % 2 + 2);
+        record_word(out, bit % 2 + 2);
         return;
     }
     if bit == 0 {
-        program_console::word(b"read");
+        program_console::word(out, b"read");
         return;
     }
-    program_console::word(b"write");
+    program_console::word(out, b"write");
 }
 
 // Writes a right behind its sign: `=` before the first, a comma before any other.
-fn tell_right(kind: usize, bit: usize, first: bool) {
+fn tell_right(out: Stdout, kind: usize, bit: usize, first: bool) {
     if first {
-        program_console::word(b"=");
+        program_console::word(out, b"=");
     } else {
-        program_console::word(b",");
+        program_console::word(out, b",");
     }
-    bit_word(kind, bit);
+    bit_word(out, kind, bit);
 }
 
 // Writes the rights that the bits of a number are.
-fn tell_bits(kind: usize, value: usize) {
+fn tell_bits(out: Stdout, kind: usize, value: usize) {
     let mut left = value;
     let mut first = true;
     let mut bit = 0;
     while bit < 4 {
         if left % 2 == 1 {
-            tell_right(kind, bit, first);
+            tell_right(out, kind, bit, first);
             first = false;
         }
         left = left / 2;
@@ -245,10 +246,10 @@ fn tell_bits(kind: usize, value: usize) {
 }
 
 // Writes what a session may do in an application whose flag is the lowest bit of a number.
-fn tell_application(name: &[u8], kind: usize, flag: usize, value: usize) {
+fn tell_application(out: Stdout, name: &[u8], kind: usize, flag: usize, value: usize) {
     if flag % 2 == 1 {
-        program_console::word(name);
-        tell_bits(kind, value);
+        program_console::word(out, name);
+        tell_bits(out, kind, value);
     }
 }
 
@@ -263,31 +264,31 @@ fn share(byte: usize, n: usize) -> usize {
 }
 
 // Writes what a session may do with Biometrics n + 1.
-fn tell_file(session: &[u8], n: usize) {
+fn tell_file(out: Stdout, session: &[u8], n: usize) {
     let value = share(base::byte(session, 4 + n % 64 / 4), n);
     if value != 0 {
-        program_console::word(b" biometrics");
-        program_console::number((n % 64 + 1) as u64);
-        tell_bits(FILE, value);
+        program_console::word(out, b" biometrics");
+        program_console::number(out, (n % 64 + 1) as u64);
+        tell_bits(out, FILE, value);
     }
 }
 
 // Writes what a session may do in the biometrics application. The name alone is left out where a file's name says it, too.
-fn tell_biometrics(session: &[u8], flag: usize) {
+fn tell_biometrics(out: Stdout, session: &[u8], flag: usize) {
     let value = base::byte(session, 3);
     if value == 0 {
         if !text::starts(base::part(session, 4, 16), &[0; 16]) {
             return;
         }
     }
-    tell_application(b" biometrics", CERTIFICATES, flag, value);
+    tell_application(out, b" biometrics", CERTIFICATES, flag, value);
 }
 
 // Writes what a session may do with biometrics files.
-fn tell_files(session: &[u8]) {
+fn tell_files(out: Stdout, session: &[u8]) {
     let mut n = 0;
     while n < 64 {
-        tell_file(session, n);
+        tell_file(out, session, n);
         n += 1;
     }
 }
@@ -302,20 +303,20 @@ fn has_all(session: &[u8]) -> bool {
 }
 
 // Writes the rights of a session, which are in cleared form.
-pub(crate) fn tell(session: &[u8]) {
-    program_console::word(b"= rights:");
+pub(crate) fn tell(out: Stdout, session: &[u8]) {
+    program_console::word(out, b"= rights:");
     if has_all(session) {
-        program_console::word(b" all\n");
+        program_console::word(out, b" all\n");
         return;
     }
     let flags = base::byte(session, 0);
     if flags == 0 {
-        program_console::word(b" none\n");
+        program_console::word(out, b" none\n");
         return;
     }
-    tell_application(b" travel", RECORDS, flags, base::byte(session, 1));
-    tell_application(b" visa", RECORDS, flags / 2, base::byte(session, 2));
-    tell_biometrics(session, flags / 4);
-    tell_files(session);
-    program_console::end();
+    tell_application(out, b" travel", RECORDS, flags, base::byte(session, 1));
+    tell_application(out, b" visa", RECORDS, flags / 2, base::byte(session, 2));
+    tell_biometrics(out, session, flags / 4);
+    tell_files(out, session);
+    program_console::end(out);
 }

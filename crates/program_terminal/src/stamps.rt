@@ -5,27 +5,28 @@ ghost use Rattle.std.specs.Prelude.{◌≤◌, length};
 use crate::status::Ended;
 use crate::{hex, status, text};
 use program_console::result;
+use std::io::Stdout;
 use store_records::body;
 
 // How many bytes stand in a row.
 const ROW: usize = 16;
 
 // The name of a field, the first counted as 0.
-fn name(k: usize) {
+fn name(out: Stdout, k: usize) {
     match k {
-        0 => program_console::word(b"  State (copy)           "),
-        1 => program_console::word(b"  State                  "),
-        2 => program_console::word(b"  visa approvals         "),
-        3 => program_console::word(b"  date                   "),
-        4 => program_console::word(b"  authority              "),
-        5 => program_console::word(b"  location               "),
-        6 => program_console::word(b"  inspector              "),
-        7 => program_console::word(b"  result                 "),
-        8 => program_console::word(b"  mode                   "),
-        9 => program_console::word(b"  duration               "),
-        10 => program_console::word(b"  conditions             "),
-        11 => program_console::word(b"  signature              "),
-        _ => program_console::word(b"  certificate reference  "),
+        0 => program_console::word(out, b"  State (copy)           "),
+        1 => program_console::word(out, b"  State                  "),
+        2 => program_console::word(out, b"  visa approvals         "),
+        3 => program_console::word(out, b"  date                   "),
+        4 => program_console::word(out, b"  authority              "),
+        5 => program_console::word(out, b"  location               "),
+        6 => program_console::word(out, b"  inspector              "),
+        7 => program_console::word(out, b"  result                 "),
+        8 => program_console::word(out, b"  mode                   "),
+        9 => program_console::word(out, b"  duration               "),
+        10 => program_console::word(out, b"  conditions             "),
+        11 => program_console::word(out, b"  signature              "),
+        _ => program_console::word(out, b"  certificate reference  "),
     }
 }
 
@@ -35,70 +36,76 @@ fn is_binary(k: usize) -> bool {
 }
 
 // A value: text between quotation marks, which no text has, other bytes in hexadecimal, and a word where there is none.
-fn value(k: usize, v: &[u8]) {
+fn value(out: Stdout, k: usize, v: &[u8]) {
     if v.len() == 0 {
-        program_console::word(b" (absent)");
+        program_console::word(out, b" (absent)");
         return;
     }
     if is_binary(k) {
-        program_console::spell(v);
+        program_console::spell(out, v);
         return;
     }
-    program_console::word(b" \"");
-    program_console::word(v);
-    program_console::word(b"\"");
+    program_console::word(out, b" \"");
+    program_console::word(out, v);
+    program_console::word(out, b"\"");
 }
 
 // The fields, a line each.
-fn fields(record: &[u8], places: &[u32])
+fn fields(out: Stdout, record: &[u8], places: &[u32])
     requires { 26 ≤ length places.now }
 {
     let mut k = 0;
     while k < 13 {
-        name(k);
+        name(out, k);
         value(
+            out,
             k,
             base::part(record, places[2 * k] as usize, places[2 * k + 1] as usize),
         );
-        program_console::end();
+        program_console::end(out);
         k += 1;
     }
 }
 
 // The reason of a fault.
-fn reason(n: u64) {
+fn reason(out: Stdout, n: u64) {
     match n {
-        1 => program_console::word(b"wrong tag: an object is missing, out of order, or too many"),
+        1 => program_console::word(
+            out,
+            b"wrong tag: an object is missing, out of order, or too many",
+        ),
         2 => program_console::word(
+            out,
             b"wrong length: none, past the end, not in its shortest form, or not allowed by Table 11",
         ),
         _ => program_console::word(
+            out,
             b"wrong content: not allowed by Table 11, or not the State that stands first",
         ),
     }
 }
 
 // An arrow under the byte with this place in its row.
-fn arrow(at: usize, why: u64) {
+fn arrow(out: Stdout, at: usize, why: u64) {
     let spaces = [32; 64];
-    program_console::word(base::part(&spaces, 0, at % ROW * 3 + 2));
-    program_console::word(b"^ ");
-    reason(why);
-    program_console::end();
+    program_console::word(out, base::part(&spaces, 0, at % ROW * 3 + 2));
+    program_console::word(out, b"^ ");
+    reason(out, why);
+    program_console::end(out);
 }
 
 // A row of bytes.
-fn line_of(bytes: &[u8]) {
+fn line_of(out: Stdout, bytes: &[u8]) {
     if 0 < bytes.len() {
-        program_console::word(b" ");
+        program_console::word(out, b" ");
     }
-    program_console::spell(bytes);
-    program_console::end();
+    program_console::spell(out, bytes);
+    program_console::end(out);
 }
 
 // The row of bytes with this number, and the arrow where the fault is in it. Behind the last byte there is a row only where the fault is there.
 // A record has fewer rows than 2^32, so the remainder changes nothing; it keeps the product small.
-fn row(record: &[u8], n: usize, at: usize, why: u64) {
+fn row(out: Stdout, record: &[u8], n: usize, at: usize, why: u64) {
     let bytes = base::part(record, n % 4294967296 * ROW, ROW);
     let here = at / ROW == n;
     if bytes.len() == 0 {
@@ -106,58 +113,63 @@ fn row(record: &[u8], n: usize, at: usize, why: u64) {
             return;
         }
     }
-    line_of(bytes);
+    line_of(out, bytes);
     if here {
-        arrow(at, why);
+        arrow(out, at, why);
     }
 }
 
 // The bytes of a record, and where the fault is.
-fn rows(record: &[u8], at: usize, why: u64) {
+fn rows(out: Stdout, record: &[u8], at: usize, why: u64) {
     for n in 0..=record.len() / ROW {
-        row(record, n, at, why);
+        row(out, record, n, at, why);
     }
 }
 
 // What stands before the answer: the number, and the file.
-fn title(number: u8, exit: bool) {
+fn title(out: Stdout, number: u8, exit: bool) {
     let digits = [number];
-    program_console::word(b"= record");
-    program_console::spell(&digits);
+    program_console::word(out, b"= record");
+    program_console::spell(out, &digits);
     if exit {
-        program_console::word(b" of ExitRecords");
+        program_console::word(out, b" of ExitRecords");
     } else {
-        program_console::word(b" of EntryRecords");
+        program_console::word(out, b" of EntryRecords");
     }
 }
 
 // Reads a record as a stamp, and writes what it says.
-fn tell(record: &[u8], number: u8, exit: bool) {
+fn tell(out: Stdout, record: &[u8], number: u8, exit: bool) {
     let mut places: [u32; 26] = [0; 26];
     let r = malquindo::malquindo_stamp_read(record, &mut places);
-    title(number, exit);
+    title(out, number, exit);
     if r == 0 {
-        program_console::word(b" is a stamp\n");
-        fields(record, &places);
+        program_console::word(out, b" is a stamp\n");
+        fields(out, record, &places);
         return;
     }
-    program_console::word(b" is no stamp: first fault at offset");
-    program_console::field(result::stamp_offset(r));
-    program_console::end();
-    rows(record, result::stamp_offset(r), result::stamp_reason(r));
+    program_console::word(out, b" is no stamp: first fault at offset");
+    program_console::field(out, result::stamp_offset(r));
+    program_console::end(out);
+    rows(
+        out,
+        record,
+        result::stamp_offset(r),
+        result::stamp_reason(r),
+    );
 }
 
 // The record with this number, where the file has it.
-fn find(b: &[u8], number: u8, exit: bool) -> usize {
+fn find(out: Stdout, b: &[u8], number: u8, exit: bool) -> usize {
     let n = number as usize;
     if 0 < n {
         if n <= body::count(b) {
-            tell(body::record(b, n), number, exit);
+            tell(out, body::record(b, n), number, exit);
             return status::GOOD;
         }
     }
-    title(number, exit);
-    program_console::word(b" is missing\n");
+    title(out, number, exit);
+    program_console::word(out, b" is missing\n");
     status::GOOD
 }
 
@@ -170,7 +182,7 @@ fn file(image: &[u8], exit: bool) -> &[u8] {
 }
 
 // A stamp's line, behind its first word.
-pub(crate) fn line(s: &[u8], image: &[u8]) -> Ended {
+pub(crate) fn line(out: Stdout, s: &[u8], image: &[u8]) -> Ended {
     let at = text::start(s, 0);
     let number = hex::number(text::word(s, at), true);
     let which = text::next(s, at);
@@ -178,10 +190,10 @@ pub(crate) fn line(s: &[u8], image: &[u8]) -> Ended {
         return status::unread();
     }
     if s.len() <= which {
-        return status::read(find(file(image, false), (number % 256) as u8, false));
+        return status::read(find(out, file(image, false), (number % 256) as u8, false));
     }
     if text::is(base::part(s, which, s.len()), b"exit") {
-        return status::read(find(file(image, true), (number % 256) as u8, true));
+        return status::read(find(out, file(image, true), (number % 256) as u8, true));
     }
     status::unread()
 }

@@ -15,6 +15,7 @@
 ghost use Rattle.std.specs.Prelude.{◌≡◌, length, replicate};
 
 use program_console::result;
+use std::io::Stdout;
 use store_records::little::{read16, read32};
 
 // How many bytes a session has.
@@ -38,14 +39,14 @@ fn torn(s: &[u8]) -> Turn {
 }
 
 // Opens a session, and writes the line.
-fn open(certificates: &[u8], kept: &mut [u8]) {
+fn open(out: Stdout, certificates: &[u8], kept: &mut [u8]) {
     let r = malquindo::malquindo_open(certificates, kept);
-    program_console::number(result::refusal(r));
-    program_console::end();
+    program_console::number(out, result::refusal(r));
+    program_console::end(out);
 }
 
 // A card, by what stands behind the case's first byte.
-fn start(s: &[u8], card: &mut [u8], kept: &mut [u8]) -> Turn {
+fn start(out: Stdout, s: &[u8], card: &mut [u8], kept: &mut [u8]) -> Turn {
     let bytes = base::part(s, 64, s.len());
     let n = read32(s, 60);
     if bytes.len() < n {
@@ -58,7 +59,7 @@ fn start(s: &[u8], card: &mut [u8], kept: &mut [u8]) -> Turn {
         return torn(s);
     }
     base::put(card, 0, base::part(bytes, 0, n));
-    open(base::part(s, 0, 60), &mut kept[..SESSION]);
+    open(out, base::part(s, 0, 60), &mut kept[..SESSION]);
     Turn {
         left: bytes.len() - n,
         image: n,
@@ -67,9 +68,9 @@ fn start(s: &[u8], card: &mut [u8], kept: &mut [u8]) -> Turn {
 }
 
 // Writes the end of a line: a session but for the bytes of its chain.
-fn tell(kept: &[u8]) {
-    program_console::bytes(base::part(kept, 0, 30));
-    program_console::end();
+fn tell(out: Stdout, kept: &[u8]) {
+    program_console::bytes(out, base::part(kept, 0, 30));
+    program_console::end(out);
 }
 
 // Room for a response.
@@ -80,15 +81,22 @@ fn response_room() -> [u8; 4096]
 }
 
 // Runs a command, and writes the line.
-fn run(image: &mut [u8], kept: &mut [u8], command: &[u8], response: &mut [u8]) {
+fn run(out: Stdout, image: &mut [u8], kept: &mut [u8], command: &[u8], response: &mut [u8]) {
     let r = malquindo::malquindo_command(image, kept, command, response);
-    program_console::number(result::refusal(r));
-    program_console::bytes(base::part(response, 0, result::length(r)));
-    tell(kept);
+    program_console::number(out, result::refusal(r));
+    program_console::bytes(out, base::part(response, 0, result::length(r)));
+    tell(out, kept);
 }
 
 // A command.
-fn command(s: &[u8], card: &mut [u8], image: usize, kept: &mut [u8], n: usize) -> Turn {
+fn command(
+    out: Stdout,
+    s: &[u8],
+    card: &mut [u8],
+    image: usize,
+    kept: &mut [u8],
+    n: usize,
+) -> Turn {
     let bytes = base::part(s, 4, s.len());
     let m = read16(s, 0);
     let c = read16(s, 2);
@@ -106,6 +114,7 @@ fn command(s: &[u8], card: &mut [u8], image: usize, kept: &mut [u8], n: usize) -
         return torn(s);
     }
     run(
+        out,
         &mut card[..image],
         &mut kept[..n],
         base::part(bytes, 0, c),
@@ -119,15 +128,15 @@ fn command(s: &[u8], card: &mut [u8], image: usize, kept: &mut [u8], n: usize) -
 }
 
 // Cuts a command, and writes the line.
-fn run_cut(image: &mut [u8], kept: &[u8], command: &[u8], stores: usize) {
+fn run_cut(out: Stdout, image: &mut [u8], kept: &[u8], command: &[u8], stores: usize) {
     let r = malquindo::malquindo_cut(image, kept, command, stores);
-    program_console::number(result::refusal(r));
-    program_console::field(result::stores(r));
-    tell(kept);
+    program_console::number(out, result::refusal(r));
+    program_console::field(out, result::stores(r));
+    tell(out, kept);
 }
 
 // A cut.
-fn cut(s: &[u8], card: &mut [u8], image: usize, kept: &[u8], n: usize) -> Turn {
+fn cut(out: Stdout, s: &[u8], card: &mut [u8], image: usize, kept: &[u8], n: usize) -> Turn {
     let bytes = base::part(s, 4, s.len());
     let c = read16(s, 2);
     if bytes.len() < c {
@@ -137,6 +146,7 @@ fn cut(s: &[u8], card: &mut [u8], image: usize, kept: &[u8], n: usize) -> Turn {
         return torn(s);
     }
     run_cut(
+        out,
         &mut card[..image],
         base::part(kept, 0, n),
         base::part(bytes, 0, c),
@@ -183,10 +193,10 @@ fn session(s: &[u8], kept: &mut [u8], image: usize) -> Turn {
 }
 
 // A look, at the card's image or at the session.
-fn look(s: &[u8], title: &[u8], seen: &[u8], image: usize, session: usize) -> Turn {
-    program_console::word(title);
-    program_console::bytes(seen);
-    program_console::end();
+fn look(out: Stdout, s: &[u8], title: &[u8], seen: &[u8], image: usize, session: usize) -> Turn {
+    program_console::word(out, title);
+    program_console::bytes(out, seen);
+    program_console::end(out);
     Turn {
         left: s.len(),
         image,
@@ -195,36 +205,36 @@ fn look(s: &[u8], title: &[u8], seen: &[u8], image: usize, session: usize) -> Tu
 }
 
 // Answers the case that s starts with.
-fn case(s: &[u8], card: &mut [u8], i: usize, kept: &mut [u8], n: usize) -> Turn {
+fn case(out: Stdout, s: &[u8], card: &mut [u8], i: usize, kept: &mut [u8], n: usize) -> Turn {
     let rest = base::part(s, 1, s.len());
     match base::byte(s, 0) {
-        1 => start(rest, card, kept),
-        2 => command(rest, card, i, kept, n),
-        3 => cut(rest, card, i, kept, n),
+        1 => start(out, rest, card, kept),
+        2 => command(out, rest, card, i, kept, n),
+        3 => cut(out, rest, card, i, kept, n),
         4 => session(rest, kept, i),
-        5 => look(rest, b"image", base::part(card, 0, i), i, n),
-        6 => look(rest, b"session", base::part(kept, 0, n), i, n),
+        5 => look(out, rest, b"image", base::part(card, 0, i), i, n),
+        6 => look(out, rest, b"session", base::part(kept, 0, n), i, n),
         _ => torn(s),
     }
 }
 
 // Answers the cases of s, up to the first that is torn or unknown.
-fn cases(s: &[u8], card: &mut [u8], kept: &mut [u8]) {
+fn cases(out: Stdout, s: &[u8], card: &mut [u8], kept: &mut [u8]) {
     let mut image = 0;
     let mut session = 0;
     let mut at = 0;
     while at < s.len() {
-        let t = case(base::part(s, at, s.len()), card, image, kept, session);
+        let t = case(out, base::part(s, at, s.len()), card, image, kept, session);
         image = t.image;
         session = t.session;
-        at = program_console::cases::next(s, at, t.left);
+        at = program_console::cases::next(out, s, at, t.left);
     }
 }
 
-fn main() {
+fn main(rt: HostRuntime) {
     let mut input = program_console::room();
     let mut card = program_console::room();
     let mut kept = session_room();
-    let n = io::read_full(0, &mut input);
-    cases(&input[..n], &mut card, &mut kept);
+    let n = program_console::read_full(rt.stdin(), &mut input);
+    cases(rt.stdout(), &input[..n], &mut card, &mut kept);
 }

@@ -11,8 +11,9 @@ mod rules;
 mod windows;
 mod writing;
 
-ghost use Rattle.io.specs.Counts.{IsPrefixLen};
+ghost use Rattle.std.specs.Prelude.{◌≡◌, ◌≤◌, length, take};
 
+use std::io::Stdout;
 use store_records::little::read32;
 
 // The number that s starts with.
@@ -27,22 +28,23 @@ fn behind(s: &[u8]) -> &[u8] {
 }
 
 // Hands a case to the module that knows it. Answers whether one did.
-fn answer(op: usize, x: usize, y: usize, a: &mut [u8], b: &[u8]) -> bool {
+fn answer(out: Stdout, op: usize, x: usize, y: usize, a: &mut [u8], b: &[u8]) -> bool {
     match op / 10 {
-        1 => images::answer(op, x, y, a, b),
-        2 => body::answer(op, x, y, a, b),
-        3 => biometrics::answer(op, x, a, b),
-        4 => rules::answer(op, x, y, a),
-        5 => reading::answer(op, x, a),
-        6 => windows::answer(op, x, y, a, b),
-        7 => writing::answer(op, x, y, a, b),
+        1 => images::answer(out, op, x, y, a, b),
+        2 => body::answer(out, op, x, y, a, b),
+        3 => biometrics::answer(out, op, x, a, b),
+        4 => rules::answer(out, op, x, y, a),
+        5 => reading::answer(out, op, x, a),
+        6 => windows::answer(out, op, x, y, a, b),
+        7 => writing::answer(out, op, x, y, a, b),
         _ => false,
     }
 }
 
 // Copies s and then zeros to the start of `copy`, and answers how many bytes that are: none where they do not fit.
 fn load(copy: &mut [u8], s: &[u8], zeros: usize) -> usize
-    ensures { IsPrefixLen result copy.new }
+    ensures within { result ≤ length copy.new }
+    ensures lent { result ≡ length (take result copy.new) }
 {
     base::put(copy, 0, s);
     let mut n = s.len();
@@ -62,7 +64,7 @@ fn load(copy: &mut [u8], s: &[u8], zeros: usize) -> usize
 }
 
 // Answers the case that s starts with. Answers how many bytes are left behind it: all where it is torn or unknown.
-fn case(s: &[u8], copy: &mut [u8]) -> usize {
+fn case(out: Stdout, s: &[u8], copy: &mut [u8]) -> usize {
     let x = base::part(s, 1, s.len());
     let y = behind(x);
     let la = behind(y);
@@ -82,25 +84,32 @@ fn case(s: &[u8], copy: &mut [u8]) -> usize {
     }
     let n = load(copy, base::part(bytes, 0, m), number(zeros));
     let b = base::part(bytes, m, k);
-    if answer(base::byte(s, 0), number(x), number(y), &mut copy[..n], b) {
-        program_console::end();
+    if answer(
+        out,
+        base::byte(s, 0),
+        number(x),
+        number(y),
+        &mut copy[..n],
+        b,
+    ) {
+        program_console::end(out);
         return bytes.len() - m - k;
     }
     s.len()
 }
 
 // Answers the cases of s, up to the first that is torn or unknown.
-fn cases(s: &[u8], copy: &mut [u8]) {
+fn cases(out: Stdout, s: &[u8], copy: &mut [u8]) {
     let mut at = 0;
     while at < s.len() {
-        let left = case(base::part(s, at, s.len()), copy);
-        at = program_console::cases::next(s, at, left);
+        let left = case(out, base::part(s, at, s.len()), copy);
+        at = program_console::cases::next(out, s, at, left);
     }
 }
 
-fn main() {
+fn main(rt: HostRuntime) {
     let mut input = program_console::room();
     let mut copy = program_console::room();
-    let n = io::read_full(0, &mut input);
-    cases(&input[..n], &mut copy);
+    let n = program_console::read_full(rt.stdin(), &mut input);
+    cases(rt.stdout(), &input[..n], &mut copy);
 }

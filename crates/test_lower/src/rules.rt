@@ -1,58 +1,59 @@
 // Cases of store_kinds::rules.
+use std::io::Stdout;
 use store_kinds::rules::{Key, RULES, Ruled, find_rule};
 
-fn rule(found: Ruled) {
+fn rule(out: Stdout, found: Ruled) {
     match found {
         Ruled::Is(r) => {
-            program_console::field(r.kind);
-            program_console::field(r.application);
-            program_console::field(r.id);
-            program_console::field(r.short);
-            program_console::field(r.longest);
-            program_console::field(r.most);
+            program_console::field(out, r.kind);
+            program_console::field(out, r.application);
+            program_console::field(out, r.id);
+            program_console::field(out, r.short);
+            program_console::field(out, r.longest);
+            program_console::field(out, r.most);
         }
-        Ruled::Nothing => program_console::word(b" none"),
+        Ruled::Nothing => program_console::word(out, b" none"),
     }
 }
 
-fn by_kind(kind: usize) {
-    program_console::word(b"rules.kind");
-    rule(find_rule(Key::Kind(kind)));
+fn by_kind(out: Stdout, kind: usize) {
+    program_console::word(out, b"rules.kind");
+    rule(out, find_rule(Key::Kind(kind)));
 }
 
-fn by_id(application: usize, id: usize) {
-    program_console::word(b"rules.id");
-    rule(find_rule(Key::Id(application, id)));
+fn by_id(out: Stdout, application: usize, id: usize) {
+    program_console::word(out, b"rules.id");
+    rule(out, find_rule(Key::Id(application, id)));
 }
 
-fn by_short(application: usize, short: usize) {
-    program_console::word(b"rules.short");
-    rule(find_rule(Key::Short(application, short)));
+fn by_short(out: Stdout, application: usize, short: usize) {
+    program_console::word(out, b"rules.short");
+    rule(out, find_rule(Key::Short(application, short)));
 }
 
-fn by_place(i: usize) {
-    program_console::word(b"rules.row");
+fn by_place(out: Stdout, i: usize) {
+    program_console::word(out, b"rules.row");
     let rules = RULES;
     if i < rules.len() {
-        rule(Ruled::Is(rules[i]));
+        rule(out, Ruled::Is(rules[i]));
     } else {
-        rule(Ruled::Nothing);
+        rule(out, Ruled::Nothing);
     }
 }
 
-fn kind_ok(kind: usize, body: &[u8]) {
-    program_console::word(b"rules.kind_ok");
-    program_console::flag(store_kinds::rules::kind_ok(kind, body));
+fn kind_ok(out: Stdout, kind: usize, body: &[u8]) {
+    program_console::word(out, b"rules.kind_ok");
+    program_console::flag(out, store_kinds::rules::kind_ok(kind, body));
 }
 
 // Answers a case; whether it is one of these.
-pub(crate) fn answer(op: usize, x: usize, y: usize, a: &[u8]) -> bool {
+pub(crate) fn answer(out: Stdout, op: usize, x: usize, y: usize, a: &[u8]) -> bool {
     match op {
-        40 => by_kind(x),
-        41 => by_id(x, y),
-        42 => by_short(x, y),
-        43 => by_place(x),
-        44 => kind_ok(x, a),
+        40 => by_kind(out, x),
+        41 => by_id(out, x, y),
+        42 => by_short(out, x, y),
+        43 => by_place(out, x),
+        44 => kind_ok(out, x, a),
         _ => return false,
     }
     true

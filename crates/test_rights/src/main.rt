@@ -7,26 +7,55 @@ ghost use Rattle.std.specs.Prelude.{◌≤◌};
 
 use machine_rights::Rights;
 use program_console::word;
+use std::io::Stdout;
 use store_files::{File, Transparent};
 
 // The page down to the head of its table, in Markdown.
-fn head() {
-    word(b"# Biometrics 1 to 64 beside Table 23\n\n");
-    word(b"The program `crates/test_rights` writes this page, and the gate compares it.\n");
-    word(b"Do not edit it by hand.\n\n");
-    word(b"The program asks `may_biometrics`, by which the machine tells whether a session may\n");
-    word(b"use a biometrics file. It sets one of the 136 bits of the 17 biometrics bytes and no\n");
-    word(b"other, and asks about each file number from 0 to 255 in both states. A letter stands\n");
-    word(b"where the answer is yes:\n\n");
-    word(b"- D: the file may be used while Deactivated: select, FMM, read, write, activate.\n");
-    word(b"- A: the file may be used while Activated: select, FMM, read.\n\n");
+fn head(out: Stdout) {
+    word(out, b"# Biometrics 1 to 64 beside Table 23\n\n");
     word(
+        out,
+        b"The program `crates/test_rights` writes this page, and the gate compares it.\n",
+    );
+    word(out, b"Do not edit it by hand.\n\n");
+    word(
+        out,
+        b"The program asks `may_biometrics`, by which the machine tells whether a session may\n",
+    );
+    word(
+        out,
+        b"use a biometrics file. It sets one of the 136 bits of the 17 biometrics bytes and no\n",
+    );
+    word(
+        out,
+        b"other, and asks about each file number from 0 to 255 in both states. A letter stands\n",
+    );
+    word(out, b"where the answer is yes:\n\n");
+    word(
+        out,
+        b"- D: the file may be used while Deactivated: select, FMM, read, write, activate.\n",
+    );
+    word(
+        out,
+        b"- A: the file may be used while Activated: select, FMM, read.\n\n",
+    );
+    word(
+        out,
         b"A file has a row for each byte in which it has a letter. A number that has no row has\n",
     );
-    word(b"no bit. ICAO's Table 23 has two rows for a file: D is the first, A the second. Its\n");
-    word(b"byte 1 is for EF.Certificates.\n\n");
-    word(b"| byte | file            | EF identifier | b8 | b7 | b6 | b5 | b4 | b3 | b2 | b1 |\n");
-    word(b"|-----:|-----------------|---------------|----|----|----|----|----|----|----|----|\n");
+    word(
+        out,
+        b"no bit. ICAO's Table 23 has two rows for a file: D is the first, A the second. Its\n",
+    );
+    word(out, b"byte 1 is for EF.Certificates.\n\n");
+    word(
+        out,
+        b"| byte | file            | EF identifier | b8 | b7 | b6 | b5 | b4 | b3 | b2 | b1 |\n",
+    );
+    word(
+        out,
+        b"|-----:|-----------------|---------------|----|----|----|----|----|----|----|----|\n",
+    );
 }
 
 // Rights with the biometrics flag, one bit of the 17 bytes, and nothing else.
@@ -71,73 +100,74 @@ fn digit(n: usize) -> u8 {
 }
 
 // The space that a number of one digit lacks beside one of two.
-fn pad(n: usize) {
+fn pad(out: Stdout, n: usize) {
     if n < 10 {
-        word(b" ");
+        word(out, b" ");
     }
 }
 
 // The cells before the bits: the byte, the file, and the identifier by which the machine knows it.
-fn first_cells(n: u8, byte: usize) {
+fn first_cells(out: Stdout, n: u8, byte: usize) {
     let id = store_files::id_of(File::TransparentFile(Transparent::Biometrics(n)));
     let text = [digit(id / 4096), digit(id / 256), digit(id / 16), digit(id)];
-    word(b"|   ");
-    pad(byte);
-    program_console::number(byte as u64);
-    word(b" | EF.Biometrics");
-    program_console::number(n as u64);
-    pad(n as usize);
-    word(b" | ");
-    word(&text);
-    word(b"          |");
+    word(out, b"|   ");
+    pad(out, byte);
+    program_console::number(out, byte as u64);
+    word(out, b" | EF.Biometrics");
+    program_console::number(out, n as u64);
+    pad(out, n as usize);
+    word(out, b" | ");
+    word(out, &text);
+    word(out, b"          |");
 }
 
 // The cell of a bit, with its letter, or with both should the bit count in both states.
-fn cell(n: u8, byte: usize, bit: usize)
+fn cell(out: Stdout, n: u8, byte: usize, bit: usize)
     requires { ((1 ≤ byte) × (byte ≤ 17)) × ((1 ≤ bit) × (bit ≤ 8)) }
 {
     let d = opens(n, false, byte, bit);
     let a = opens(n, true, byte, bit);
     if d && a {
-        word(b" DA |");
+        word(out, b" DA |");
     } else if d {
-        word(b" D  |");
+        word(out, b" D  |");
     } else if a {
-        word(b" A  |");
+        word(out, b" A  |");
     } else {
-        word(b"    |");
+        word(out, b"    |");
     }
 }
 
 // The row of Biometrics n for a byte.
-fn row(n: u8, byte: usize)
+fn row(out: Stdout, n: u8, byte: usize)
     requires { (1 ≤ byte) × (byte ≤ 17) }
 {
-    first_cells(n, byte);
+    first_cells(out, n, byte);
     let mut bit = 8;
     while 0 < bit {
-        cell(n, byte, bit);
+        cell(out, n, byte, bit);
         bit -= 1;
     }
-    program_console::end();
+    program_console::end(out);
 }
 
 // The rows of Biometrics n.
-fn file(n: u8) {
+fn file(out: Stdout, n: u8) {
     let mut byte = 1;
     while byte <= 17 {
         if has_letter(n, byte) {
-            row(n, byte);
+            row(out, n, byte);
         }
         byte += 1;
     }
 }
 
-fn main() {
-    head();
+fn main(rt: HostRuntime) {
+    let out = rt.stdout();
+    head(out);
     let mut n: usize = 0;
     while n <= 255 {
-        file((n % 256) as u8);
+        file(out, (n % 256) as u8);
         n += 1;
     }
 }

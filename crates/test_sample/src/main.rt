@@ -31,6 +31,7 @@
 ghost use Rattle.std.specs.Prelude.{◌≡◌, length, replicate};
 
 use program_console::result;
+use std::io::Stdout;
 use store_records::little::{read16, read32};
 
 // What is left of the input behind a case, how long the card's image and the session are.
@@ -120,21 +121,21 @@ fn session(s: &[u8], kept: &mut [u8], image: usize) -> Turn {
 }
 
 // Writes a session: most of its bytes are zeros, so the first ones and a hash tell it.
-fn tell_session(kept: &[u8]) {
-    program_console::bytes(base::part(kept, 0, 30));
-    program_console::word(b" ");
-    program_console::number(hash(kept));
+fn tell_session(out: Stdout, kept: &[u8]) {
+    program_console::bytes(out, base::part(kept, 0, 30));
+    program_console::word(out, b" ");
+    program_console::number(out, hash(kept));
 }
 
 // The line of an opening.
-fn open(rights: &[u8], kept: &mut [u8]) {
-    program_console::number(malquindo::malquindo_open(rights, kept));
-    tell_session(kept);
-    program_console::end();
+fn open(out: Stdout, rights: &[u8], kept: &mut [u8]) {
+    program_console::number(out, malquindo::malquindo_open(rights, kept));
+    tell_session(out, kept);
+    program_console::end(out);
 }
 
 // An opening.
-fn opening(s: &[u8], kept: &mut [u8], image: usize, n: usize) -> Turn {
+fn opening(out: Stdout, s: &[u8], kept: &mut [u8], image: usize, n: usize) -> Turn {
     let bytes = base::part(s, 2, s.len());
     let m = read16(s, 0);
     if bytes.len() < m {
@@ -143,7 +144,7 @@ fn opening(s: &[u8], kept: &mut [u8], image: usize, n: usize) -> Turn {
     if kept.len() < n {
         return torn(s);
     }
-    open(base::part(bytes, 0, m), &mut kept[..n]);
+    open(out, base::part(bytes, 0, m), &mut kept[..n]);
     Turn {
         left: bytes.len() - m,
         image,
@@ -158,20 +159,27 @@ fn filled() -> [u8; 4096]
 }
 
 // The line of a command.
-fn run(image: &mut [u8], kept: &mut [u8], command: &[u8], response: &mut [u8]) {
+fn run(out: Stdout, image: &mut [u8], kept: &mut [u8], command: &[u8], response: &mut [u8]) {
     let r = malquindo::malquindo_command(image, kept, command, response);
-    program_console::number(r);
-    program_console::bytes(base::part(response, 0, result::length(r)));
-    tell_session(kept);
-    program_console::word(b" ");
-    program_console::number(hash(image));
-    program_console::word(b" ");
-    program_console::number(hash(response));
-    program_console::end();
+    program_console::number(out, r);
+    program_console::bytes(out, base::part(response, 0, result::length(r)));
+    tell_session(out, kept);
+    program_console::word(out, b" ");
+    program_console::number(out, hash(image));
+    program_console::word(out, b" ");
+    program_console::number(out, hash(response));
+    program_console::end(out);
 }
 
 // A command.
-fn command(s: &[u8], card: &mut [u8], image: usize, kept: &mut [u8], n: usize) -> Turn {
+fn command(
+    out: Stdout,
+    s: &[u8],
+    card: &mut [u8],
+    image: usize,
+    kept: &mut [u8],
+    n: usize,
+) -> Turn {
     let bytes = base::part(s, 4, s.len());
     let m = read16(s, 0);
     let c = read16(s, 2);
@@ -189,6 +197,7 @@ fn command(s: &[u8], card: &mut [u8], image: usize, kept: &mut [u8], n: usize) -
         return torn(s);
     }
     run(
+        out,
         &mut card[..image],
         &mut kept[..n],
         base::part(bytes, 0, c),
@@ -209,12 +218,12 @@ fn fresh() -> [u8; 262144]
 }
 
 // The line of a move. Answers how long the card's image is then.
-fn move_to(card: &mut [u8], image: usize, list: &[u8], target: &mut [u8]) -> usize {
+fn move_to(out: Stdout, card: &mut [u8], image: usize, list: &[u8], target: &mut [u8]) -> usize {
     let r = malquindo::malquindo_move(base::part(card, 0, image), list, target);
-    program_console::number(r);
-    program_console::word(b" ");
-    program_console::number(hash(target));
-    program_console::end();
+    program_console::number(out, r);
+    program_console::word(out, b" ");
+    program_console::number(out, hash(target));
+    program_console::end(out);
     if result::refusal(r) != 0 {
         return image;
     }
@@ -224,7 +233,7 @@ fn move_to(card: &mut [u8], image: usize, list: &[u8], target: &mut [u8]) -> usi
 }
 
 // A move.
-fn moved(s: &[u8], card: &mut [u8], image: usize, session: usize) -> Turn {
+fn moved(out: Stdout, s: &[u8], card: &mut [u8], image: usize, session: usize) -> Turn {
     let bytes = base::part(s, 6, s.len());
     let m = read32(s, 0);
     let n = read16(s, 4);
@@ -235,7 +244,7 @@ fn moved(s: &[u8], card: &mut [u8], image: usize, session: usize) -> Turn {
     if target.len() < m {
         return torn(s);
     }
-    let now = move_to(card, image, base::part(bytes, 0, n), &mut target[..m]);
+    let now = move_to(out, card, image, base::part(bytes, 0, n), &mut target[..m]);
     Turn {
         left: bytes.len() - n,
         image: now,
@@ -244,22 +253,22 @@ fn moved(s: &[u8], card: &mut [u8], image: usize, session: usize) -> Turn {
 }
 
 // The line of a file.
-fn tell_file(image: &[u8], kind: u16) {
+fn tell_file(out: Stdout, image: &[u8], kind: u16) {
     let r = malquindo::malquindo_file(image, kind);
     let body = base::part(image, result::file_place(r), result::file_length(r));
-    program_console::number(r);
-    program_console::word(b" ");
-    program_console::number(hash(body));
-    program_console::end();
+    program_console::number(out, r);
+    program_console::word(out, b" ");
+    program_console::number(out, hash(body));
+    program_console::end(out);
 }
 
 // A file.
-fn file(s: &[u8], card: &[u8], image: usize, session: usize) -> Turn {
+fn file(out: Stdout, s: &[u8], card: &[u8], image: usize, session: usize) -> Turn {
     if s.len() < 2 {
         return torn(s);
     }
     let kind = read16(s, 0);
-    tell_file(base::part(card, 0, image), (kind % 65536) as u16);
+    tell_file(out, base::part(card, 0, image), (kind % 65536) as u16);
     Turn {
         left: s.len() - 2,
         image,
@@ -268,21 +277,24 @@ fn file(s: &[u8], card: &[u8], image: usize, session: usize) -> Turn {
 }
 
 // The line of a certificate.
-fn tell_certificate<'a>(card: &'a [u8], desk: &'a [u8], reference: u8) {
-    program_console::number(malquindo::malquindo_certificate(card, desk, reference));
-    program_console::bytes(store_certificates::named_certificate(card, desk, reference));
-    program_console::end();
+fn tell_certificate<'a>(out: Stdout, card: &'a [u8], desk: &'a [u8], reference: u8) {
+    program_console::number(out, malquindo::malquindo_certificate(card, desk, reference));
+    program_console::bytes(
+        out,
+        store_certificates::named_certificate(card, desk, reference),
+    );
+    program_console::end(out);
 }
 
 // The lines of the references from the first to the last.
-fn tell_certificates<'a>(card: &'a [u8], desk: &'a [u8], first: usize, last: usize) {
+fn tell_certificates<'a>(out: Stdout, card: &'a [u8], desk: &'a [u8], first: usize, last: usize) {
     for n in first..=last {
-        tell_certificate(card, desk, (n % 256) as u8);
+        tell_certificate(out, card, desk, (n % 256) as u8);
     }
 }
 
 // Certificates.
-fn certificates(s: &[u8], image: usize, session: usize) -> Turn {
+fn certificates(out: Stdout, s: &[u8], image: usize, session: usize) -> Turn {
     let n = read32(s, 2);
     let card = base::part(s, 6, n);
     let rest = base::part(s, 6 + n, s.len());
@@ -294,7 +306,7 @@ fn certificates(s: &[u8], image: usize, session: usize) -> Turn {
     if desk.len() < m {
         return torn(s);
     }
-    tell_certificates(card, desk, base::byte(s, 0), base::byte(s, 1));
+    tell_certificates(out, card, desk, base::byte(s, 0), base::byte(s, 1));
     Turn {
         left: base::natural::saturating_sub(rest.len(), 4 + m),
         image,
@@ -341,47 +353,47 @@ fn hash_places(places: &[u32]) -> u64 {
 }
 
 // The line of a list that is built or extended.
-fn tell_places(r: u64, places: &[u32]) {
-    program_console::number(r);
-    program_console::word(b" ");
-    program_console::number(hash_places(places));
-    program_console::end();
+fn tell_places(out: Stdout, r: u64, places: &[u32]) {
+    program_console::number(out, r);
+    program_console::word(out, b" ");
+    program_console::number(out, hash_places(places));
+    program_console::end(out);
 }
 
 // The line of a record that is read.
-fn tell_record(body: &[u8], places: &[u32], number: usize) {
-    program_console::number(malquindo::malquindo_index_read(body, places, number));
-    program_console::bytes(store_index::read(body, places, number));
-    program_console::end();
+fn tell_record(out: Stdout, body: &[u8], places: &[u32], number: usize) {
+    program_console::number(out, malquindo::malquindo_index_read(body, places, number));
+    program_console::bytes(out, store_index::read(body, places, number));
+    program_console::end(out);
 }
 
 // The lines of the numbers from the first to the last.
-fn tell_records(body: &[u8], places: &[u32], first: usize, last: usize) {
+fn tell_records(out: Stdout, body: &[u8], places: &[u32], first: usize, last: usize) {
     for n in first..=last {
-        tell_record(body, places, n);
+        tell_record(out, body, places, n);
     }
 }
 
 // What is asked of an index, by what stands before its list, and the list's bytes.
-fn ask_index(head: &[u8], list: &[u8], body: &[u8], places: &mut [u32]) {
+fn ask_index(out: Stdout, head: &[u8], list: &[u8], body: &[u8], places: &mut [u32]) {
     read_places(list, places);
     let kind = (read16(head, 1) % 65536) as u16;
     let first = read64(base::part(head, 3, 8));
     match base::byte(head, 0) {
         0 => {
             let r = malquindo::malquindo_index_build(kind, body, places);
-            tell_places(r, places);
+            tell_places(out, r, places);
         }
         1 => {
             let r = malquindo::malquindo_index_extend(kind, body, places, first);
-            tell_places(r, places);
+            tell_places(out, r, places);
         }
-        _ => tell_records(body, places, first, read64(base::part(head, 11, 8))),
+        _ => tell_records(out, body, places, first, read64(base::part(head, 11, 8))),
     }
 }
 
 // An index.
-fn index(s: &[u8], image: usize, session: usize) -> Turn {
+fn index(out: Stdout, s: &[u8], image: usize, session: usize) -> Turn {
     let n = read16(s, 19);
     let rest = base::part(s, 21 + 4 * n, s.len());
     let m = read32(rest, 0);
@@ -396,7 +408,7 @@ fn index(s: &[u8], image: usize, session: usize) -> Turn {
     if places.len() < n {
         return torn(s);
     }
-    ask_index(s, base::part(s, 21, 4 * n), body, &mut places[..n]);
+    ask_index(out, s, base::part(s, 21, 4 * n), body, &mut places[..n]);
     Turn {
         left: base::natural::saturating_sub(rest.len(), 4 + m),
         image,
@@ -412,13 +424,13 @@ fn filled_places() -> [u32; 512]
 }
 
 // The line of a stamp.
-fn tell_stamp(record: &[u8], places: &mut [u32]) {
+fn tell_stamp(out: Stdout, record: &[u8], places: &mut [u32]) {
     let r = malquindo::malquindo_stamp_read(record, places);
-    tell_places(r, places);
+    tell_places(out, r, places);
 }
 
 // A stamp.
-fn stamp(s: &[u8], image: usize, session: usize) -> Turn {
+fn stamp(out: Stdout, s: &[u8], image: usize, session: usize) -> Turn {
     let n = read16(s, 0);
     let m = read32(s, 2);
     let record = base::part(s, 6, m);
@@ -432,7 +444,7 @@ fn stamp(s: &[u8], image: usize, session: usize) -> Turn {
     if places.len() < n {
         return torn(s);
     }
-    tell_stamp(record, &mut places[..n]);
+    tell_stamp(out, record, &mut places[..n]);
     Turn {
         left: base::natural::saturating_sub(s.len(), 6 + m),
         image,
@@ -441,10 +453,13 @@ fn stamp(s: &[u8], image: usize, session: usize) -> Turn {
 }
 
 // The line of the rights of three runs.
-fn tell_rights(first: &[u8], second: &[u8], third: &[u8], rights: &mut [u8]) {
-    program_console::number(malquindo::malquindo_rights(first, second, third, rights));
-    program_console::bytes(rights);
-    program_console::end();
+fn tell_rights(out: Stdout, first: &[u8], second: &[u8], third: &[u8], rights: &mut [u8]) {
+    program_console::number(
+        out,
+        malquindo::malquindo_rights(first, second, third, rights),
+    );
+    program_console::bytes(out, rights);
+    program_console::end(out);
 }
 
 // A run, with its length before it, where s has all of it.
@@ -458,7 +473,7 @@ fn behind_run(s: &[u8]) -> &[u8] {
 }
 
 // The rights of certificates.
-fn rights(s: &[u8], image: usize, session: usize) -> Turn {
+fn rights(out: Stdout, s: &[u8], image: usize, session: usize) -> Turn {
     let n = read16(s, 0);
     let first = base::part(s, 2, s.len());
     let second = behind_run(first);
@@ -474,6 +489,7 @@ fn rights(s: &[u8], image: usize, session: usize) -> Turn {
         return torn(s);
     }
     tell_rights(
+        out,
         run_at(first),
         run_at(second),
         run_at(third),
@@ -487,15 +503,15 @@ fn rights(s: &[u8], image: usize, session: usize) -> Turn {
 }
 
 // The line of a cut.
-fn run_cut(image: &mut [u8], kept: &[u8], command: &[u8], stores: usize) {
-    program_console::number(malquindo::malquindo_cut(image, kept, command, stores));
-    program_console::word(b" ");
-    program_console::number(hash(image));
-    program_console::end();
+fn run_cut(out: Stdout, image: &mut [u8], kept: &[u8], command: &[u8], stores: usize) {
+    program_console::number(out, malquindo::malquindo_cut(image, kept, command, stores));
+    program_console::word(out, b" ");
+    program_console::number(out, hash(image));
+    program_console::end(out);
 }
 
 // A cut.
-fn cut(s: &[u8], card: &mut [u8], image: usize, kept: &[u8], n: usize) -> Turn {
+fn cut(out: Stdout, s: &[u8], card: &mut [u8], image: usize, kept: &[u8], n: usize) -> Turn {
     let bytes = base::part(s, 10, s.len());
     let c = read16(s, 8);
     if bytes.len() < c {
@@ -505,6 +521,7 @@ fn cut(s: &[u8], card: &mut [u8], image: usize, kept: &[u8], n: usize) -> Turn {
         return torn(s);
     }
     run_cut(
+        out,
         &mut card[..image],
         base::part(kept, 0, n),
         base::part(bytes, 0, c),
@@ -518,34 +535,34 @@ fn cut(s: &[u8], card: &mut [u8], image: usize, kept: &[u8], n: usize) -> Turn {
 }
 
 // Answers the case that s starts with.
-fn case(s: &[u8], card: &mut [u8], i: usize, kept: &mut [u8], n: usize) -> Turn {
+fn case(out: Stdout, s: &[u8], card: &mut [u8], i: usize, kept: &mut [u8], n: usize) -> Turn {
     let rest = base::part(s, 1, s.len());
     match base::byte(s, 0) {
         1 => image(rest, card, n),
         2 => session(rest, kept, i),
-        3 => opening(rest, kept, i, n),
-        4 => command(rest, card, i, kept, n),
-        5 => moved(rest, card, i, n),
-        6 => file(rest, card, i, n),
-        7 => certificates(rest, i, n),
-        8 => index(rest, i, n),
-        9 => stamp(rest, i, n),
-        10 => rights(rest, i, n),
-        11 => cut(rest, card, i, kept, n),
+        3 => opening(out, rest, kept, i, n),
+        4 => command(out, rest, card, i, kept, n),
+        5 => moved(out, rest, card, i, n),
+        6 => file(out, rest, card, i, n),
+        7 => certificates(out, rest, i, n),
+        8 => index(out, rest, i, n),
+        9 => stamp(out, rest, i, n),
+        10 => rights(out, rest, i, n),
+        11 => cut(out, rest, card, i, kept, n),
         _ => torn(s),
     }
 }
 
 // Answers the cases of s, up to the first that is torn or unknown.
-fn cases(s: &[u8], card: &mut [u8], kept: &mut [u8]) {
+fn cases(out: Stdout, s: &[u8], card: &mut [u8], kept: &mut [u8]) {
     let mut image = 0;
     let mut session = 0;
     let mut at = 0;
     while at < s.len() {
-        let t = case(base::part(s, at, s.len()), card, image, kept, session);
+        let t = case(out, base::part(s, at, s.len()), card, image, kept, session);
         image = t.image;
         session = t.session;
-        at = program_console::cases::next(s, at, t.left);
+        at = program_console::cases::next(out, s, at, t.left);
     }
 }
 
@@ -556,10 +573,10 @@ fn input_room() -> [u8; 786432]
     [0; 786432]
 }
 
-fn main() {
+fn main(rt: HostRuntime) {
     let mut input = input_room();
     let mut card = program_console::room();
     let mut kept = session_room();
-    let n = io::read_full(0, &mut input);
-    cases(&input[..n], &mut card, &mut kept);
+    let n = program_console::read_full(rt.stdin(), &mut input);
+    cases(rt.stdout(), &input[..n], &mut card, &mut kept);
 }

@@ -9,6 +9,7 @@
 #![tactic(auto)]
 
 use machine_session::{Refusal, Session, Verdict};
+use std::io::Stdout;
 use store_records::little::read32;
 
 // What is left of the input behind a case, how long the card's image is, the session.
@@ -38,16 +39,16 @@ fn verdict(v: Verdict) -> usize {
 }
 
 // The session that certificates open, and the line that says how.
-fn open(certificates: &[u8]) -> Session {
+fn open(out: Stdout, certificates: &[u8]) -> Session {
     let a = machine::open(certificates);
     let v = a.verdict;
-    program_console::number(verdict(v) as u64);
-    program_console::end();
+    program_console::number(out, verdict(v) as u64);
+    program_console::end(out);
     a.session
 }
 
 // A new card, by what stands behind the case's first byte. What is torn leaves more than there is.
-fn start(s: &[u8], card: &mut [u8], session: Session, chain: &mut [u8]) -> Turn {
+fn start(out: Stdout, s: &[u8], card: &mut [u8], session: Session, chain: &mut [u8]) -> Turn {
     let image = base::part(s, 64, s.len());
     let len = read32(s, 60);
     if s.len() < 64 || image.len() < len || card.len() < len {
@@ -62,26 +63,40 @@ fn start(s: &[u8], card: &mut [u8], session: Session, chain: &mut [u8]) -> Turn 
     Turn {
         left: image.len() - len,
         len,
-        session: open(base::part(s, 0, 60)),
+        session: open(out, base::part(s, 0, 60)),
     }
 }
 
 // Runs a command on the card's image, and writes its line.
-fn run(card: &mut [u8], len: usize, session: Session, chain: &mut [u8], command: &[u8]) -> Session {
+fn run(
+    out: Stdout,
+    card: &mut [u8],
+    len: usize,
+    session: Session,
+    chain: &mut [u8],
+    command: &[u8],
+) -> Session {
     let mut response = [0; 2050];
     if card.len() < len {
         return session;
     }
     let a = machine::command(&mut card[..len], session, chain, command, &mut response);
     let v = a.verdict;
-    program_console::number(verdict(v) as u64);
-    program_console::bytes(base::part(&response, 0, a.length));
-    program_console::end();
+    program_console::number(out, verdict(v) as u64);
+    program_console::bytes(out, base::part(&response, 0, a.length));
+    program_console::end(out);
     a.session
 }
 
 // A command, by what stands behind the case's first byte. What is torn leaves more than there is.
-fn command(s: &[u8], card: &mut [u8], len: usize, session: Session, chain: &mut [u8]) -> Turn {
+fn command(
+    out: Stdout,
+    s: &[u8],
+    card: &mut [u8],
+    len: usize,
+    session: Session,
+    chain: &mut [u8],
+) -> Turn {
     let bytes = base::part(s, 2, s.len());
     let n = base::byte(s, 0) + 256 * base::byte(s, 1);
     if s.len() < 2 || bytes.len() < n {
@@ -92,7 +107,7 @@ fn command(s: &[u8], card: &mut [u8], len: usize, session: Session, chain: &mut 
         };
     }
     let c = base::part(bytes, 0, n);
-    let next = run(card, len, session, chain, c);
+    let next = run(out, card, len, session, chain, c);
     Turn {
         left: bytes.len() - n,
         len,
@@ -101,10 +116,10 @@ fn command(s: &[u8], card: &mut [u8], len: usize, session: Session, chain: &mut 
 }
 
 // The card's image.
-fn look(s: &[u8], card: &[u8], len: usize, session: Session) -> Turn {
-    program_console::word(b"image");
-    program_console::bytes(base::part(card, 0, len));
-    program_console::end();
+fn look(out: Stdout, s: &[u8], card: &[u8], len: usize, session: Session) -> Turn {
+    program_console::word(out, b"image");
+    program_console::bytes(out, base::part(card, 0, len));
+    program_console::end(out);
     Turn {
         left: s.len(),
         len,
@@ -113,12 +128,19 @@ fn look(s: &[u8], card: &[u8], len: usize, session: Session) -> Turn {
 }
 
 // Answers the case that s starts with. What is torn or unknown leaves no less than there is.
-fn case(s: &[u8], card: &mut [u8], len: usize, session: Session, chain: &mut [u8]) -> Turn {
+fn case(
+    out: Stdout,
+    s: &[u8],
+    card: &mut [u8],
+    len: usize,
+    session: Session,
+    chain: &mut [u8],
+) -> Turn {
     let rest = base::part(s, 1, s.len());
     match base::byte(s, 0) {
-        1 => start(rest, card, session, chain),
-        2 => command(rest, card, len, session, chain),
-        3 => look(rest, card, len, session),
+        1 => start(out, rest, card, session, chain),
+        2 => command(out, rest, card, len, session, chain),
+        3 => look(out, rest, card, len, session),
         _ => Turn {
             left: s.len(),
             len,
@@ -128,23 +150,30 @@ fn case(s: &[u8], card: &mut [u8], len: usize, session: Session, chain: &mut [u8
 }
 
 // Answers the cases of s, up to the first that is torn or unknown.
-fn cases(s: &[u8], card: &mut [u8]) {
+fn cases(out: Stdout, s: &[u8], card: &mut [u8]) {
     let none = [0; 60];
     let mut session = machine_session::open(&none);
     let mut chain = [0; machine_chain::LENGTH];
     let mut len = 0;
     let mut at = 0;
     while at < s.len() {
-        let t = case(base::part(s, at, s.len()), card, len, session, &mut chain);
+        let t = case(
+            out,
+            base::part(s, at, s.len()),
+            card,
+            len,
+            session,
+            &mut chain,
+        );
         len = t.len;
         session = t.session;
-        at = program_console::cases::next(s, at, t.left);
+        at = program_console::cases::next(out, s, at, t.left);
     }
 }
 
-fn main() {
+fn main(rt: HostRuntime) {
     let mut input = program_console::room();
     let mut card = program_console::room();
-    let n = io::read_full(0, &mut input);
-    cases(&input[..n], &mut card);
+    let n = program_console::read_full(rt.stdin(), &mut input);
+    cases(rt.stdout(), &input[..n], &mut card);
 }
