@@ -4,8 +4,9 @@
 theorems; here is checked that none is missing.
 
     scripts/determined.py          says which public function has no theorem
-    scripts/determined.py --list   lists those that need none: they only print. They answer nothing and change nothing that is lent, and
-                                   their `ensures` says nothing. docs/AUDIT.md names their crates, under "Is anything left open?"
+    scripts/determined.py --list   lists those that need none: they only print, or read standard input. A function that prints answers nothing and
+                                   changes nothing that is lent, and its `ensures` says nothing; of what is read the logic knows how much at
+                                   most. docs/AUDIT.md names their crates, under "Is anything left open?"
 """
 import collections
 import re
@@ -14,8 +15,8 @@ import sys
 sys.dont_write_bytecode = True     # no files beside the scripts
 from definitions import ROOT
 
-# path: as proofs cite it, its module in front; prints: that is all it does
-Function = collections.namedtuple('Function', 'crate path place prints')
+# path: as proofs cite it, its module in front; outside: it prints and does no more, or it reads standard input
+Function = collections.namedtuple('Function', 'crate path place outside')
 
 PUBLIC = re.compile(r'^\s*pub (?:extern "C" )?fn (\w+)')
 USE = re.compile(r'^use Rattle\.(\w+)\.proofs\.([\w.]+)\.(Kinds|Reads) as (\S+)$', re.M)
@@ -37,7 +38,8 @@ def functions():
                 head = ' '.join(x.strip() for x in lines[at:body])
                 name = '.'.join([m for m in module if m != 'lib'] + [match.group(1)])
                 prints = head.endswith(' ensures { Unit {0} }') and '->' not in head and '&mut' not in head
-                found.append(Function(crate, name, f'{path.relative_to(ROOT)}:{at + 1}', prints))
+                reads = re.search(r'\w+: Stdin\b', head) is not None
+                found.append(Function(crate, name, f'{path.relative_to(ROOT)}:{at + 1}', prints or reads))
     return found
 
 
@@ -62,13 +64,13 @@ def proved(crate):
 def main():
     every = functions()
     have = {crate: proved(crate) for crate in {f.crate for f in every}}
-    wrong = [f'{f.place}: no theorem that the contract of {f.path} determines its outcome' for f in every if not f.prints and f.path not in have[f.crate]]
-    printing = [f for f in every if f.prints]
+    wrong = [f'{f.place}: no theorem that the contract of {f.path} determines its outcome' for f in every if not f.outside and f.path not in have[f.crate]]
+    outside = [f for f in every if f.outside]
     named = set(re.findall(r'`(\w+)`', SECTION.search((ROOT / 'docs/AUDIT.md').read_text(encoding='utf-8')).group()))
-    wrong += [f'{f.place}: only prints, and docs/AUDIT.md does not name {f.crate} among what is left open' for f in printing if f.crate not in named]
+    wrong += [f'{f.place}: only prints or reads, and docs/AUDIT.md does not name {f.crate} among what is left open' for f in outside if f.crate not in named]
     if '--list' in sys.argv:
-        print('\n'.join(f'{f.place} {f.path}' for f in printing))
-    print('\n'.join(wrong) if wrong else f'determined: {len(every)} functions, {len(printing)} that only print, nothing found')
+        print('\n'.join(f'{f.place} {f.path}' for f in outside))
+    print('\n'.join(wrong) if wrong else f'determined: {len(every)} functions, {len(outside)} that only print or read, nothing found')
     return 1 if wrong else 0
 
 
