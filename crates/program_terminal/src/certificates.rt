@@ -1,5 +1,6 @@
 // The certificate that a stamp names: `certificate NN` looks for it on the card at hand, `certificate NN FILE` then in the card image of
 // FILE, which stands for the desk's own copy.
+use crate::lines::How;
 use crate::status::Ended;
 use crate::{card, files, hex, status, text};
 use program_console::{result, words};
@@ -89,13 +90,7 @@ fn ask_alone(out: Stdout, err: Stderr, reference: u8, image: &[u8]) -> usize {
 }
 
 // A certificate's line, behind its first word.
-pub(crate) fn line(
-    rt: &impl Files<File = File>,
-    out: Stdout,
-    err: Stderr,
-    s: &[u8],
-    image: &[u8],
-) -> Ended {
+pub(crate) fn line(rt: &impl Files<File = File>, s: &[u8], image: &[u8], how: How) -> Ended {
     let at = text::start(s, 0);
     let number = hex::number(text::word(s, at), true);
     let name = text::next(s, at);
@@ -103,15 +98,15 @@ pub(crate) fn line(
         return status::unread();
     }
     if s.len() <= name {
-        return status::read(ask_alone(out, err, (number % 256) as u8, image));
+        return status::read(ask_alone(how.out, how.err, (number % 256) as u8, image));
     }
     if text::next(s, name) < s.len() {
         return status::unread();
     }
     status::read(ask_with(
         rt,
-        out,
-        err,
+        how.out,
+        how.err,
         (number % 256) as u8,
         text::word(s, name),
         image,

@@ -1,5 +1,6 @@
 // The extensions of three certificates: `certificates RUN RUN RUN` opens a session with the rights that they give. A run is one word in
 // hexadecimal, or `-` where a certificate has no extensions.
+use crate::lines::How;
 use crate::status::Ended;
 use crate::{hex, rights, status, text};
 use program_console::{result, words};
@@ -75,7 +76,7 @@ fn open_words(
 }
 
 // The line of three certificates, behind its first word.
-pub(crate) fn line(out: Stdout, err: Stderr, s: &[u8], session: &mut [u8]) -> Ended {
+pub(crate) fn line(s: &[u8], session: &mut [u8], how: How) -> Ended {
     let first = text::start(s, 0);
     let second = text::next(s, first);
     let third = text::next(s, second);
@@ -86,8 +87,8 @@ pub(crate) fn line(out: Stdout, err: Stderr, s: &[u8], session: &mut [u8]) -> En
         return status::unread();
     }
     open_words(
-        out,
-        err,
+        how.out,
+        how.err,
         text::word(s, first),
         text::word(s, second),
         text::word(s, third),

@@ -171,21 +171,13 @@ fn line(
         return ended(how.err, s, cuts::line(rest, image, kept, session, how));
     }
     if text::is(word, b"move") {
-        return ended(how.err, s, moves::line(rt, how.out, how.err, rest, image));
+        return ended(how.err, s, moves::line(rt, rest, image, how));
     }
     if text::is(word, b"certificates") {
-        return ended(
-            how.err,
-            s,
-            extensions::line(how.out, how.err, rest, session),
-        );
+        return ended(how.err, s, extensions::line(rest, session, how));
     }
     if text::is(word, b"certificate") {
-        return ended(
-            how.err,
-            s,
-            certificates::line(rt, how.out, how.err, rest, image),
-        );
+        return ended(how.err, s, certificates::line(rt, rest, image, how));
     }
     if text::is(word, b"stamp") {
         return ended(how.err, s, stamps::line(how.out, rest, image));

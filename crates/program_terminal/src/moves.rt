@@ -1,4 +1,5 @@
 // A move of the card to a new file: `move FILE KIND LENGTH KIND LENGTH ...`, each kind in hexadecimal, the length of its room in decimal.
+use crate::lines::How;
 use crate::status::Ended;
 use crate::{files, hex, listing, status, text};
 use program_console::{result, words};
@@ -115,13 +116,7 @@ fn move_to(
 }
 
 // A move's line, behind its first word.
-pub(crate) fn line(
-    rt: &impl Files<File = File>,
-    out: Stdout,
-    err: Stderr,
-    s: &[u8],
-    image: &[u8],
-) -> Ended {
+pub(crate) fn line(rt: &impl Files<File = File>, s: &[u8], image: &[u8], how: How) -> Ended {
     let at = text::start(s, 0);
     let mut list = [0; 600];
     let n = rows(s, text::next(s, at), &mut list);
@@ -133,8 +128,8 @@ pub(crate) fn line(
     }
     status::read(move_to(
         rt,
-        out,
-        err,
+        how.out,
+        how.err,
         text::word(s, at),
         base::part(&list, 0, n * 6),
         image,

@@ -12,6 +12,20 @@ use store_files::{File, Transparent};
 
 // The page down to the head of its table, in Markdown.
 fn head(out: Stdout) {
+    question(out);
+    letters(out);
+    word(
+        out,
+        b"| byte | file            | EF identifier | b8 | b7 | b6 | b5 | b4 | b3 | b2 | b1 |\n",
+    );
+    word(
+        out,
+        b"|-----:|-----------------|---------------|----|----|----|----|----|----|----|----|\n",
+    );
+}
+
+// The title, and what the program asks.
+fn question(out: Stdout) {
     word(out, b"# Biometrics 1 to 64 beside Table 23\n\n");
     word(
         out,
@@ -31,6 +45,10 @@ fn head(out: Stdout) {
         b"other, and asks about each file number from 0 to 255 in both states. A letter stands\n",
     );
     word(out, b"where the answer is yes:\n\n");
+}
+
+// What the letters mean, and the rows.
+fn letters(out: Stdout) {
     word(
         out,
         b"- D: the file may be used while Deactivated: select, FMM, read, write, activate.\n",
@@ -48,14 +66,6 @@ fn head(out: Stdout) {
         b"no bit. ICAO's Table 23 has two rows for a file: D is the first, A the second. Its\n",
     );
     word(out, b"byte 1 is for EF.Certificates.\n\n");
-    word(
-        out,
-        b"| byte | file            | EF identifier | b8 | b7 | b6 | b5 | b4 | b3 | b2 | b1 |\n",
-    );
-    word(
-        out,
-        b"|-----:|-----------------|---------------|----|----|----|----|----|----|----|----|\n",
-    );
 }
 
 // Rights with the biometrics flag, one bit of the 17 bytes, and nothing else.
