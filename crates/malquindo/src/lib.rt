@@ -135,12 +135,7 @@ fn cut_result(v: Verdict, stores: usize) -> u64
 }
 
 // What a cut behind so many stores leaves of the image.
-pub fn malquindo_cut(
-    image: &mut [u8],
-    session: &[u8],
-    command: &[u8],
-    stores: usize,
-) -> u64
+pub fn malquindo_cut(image: &mut [u8], session: &[u8], command: &[u8], stores: usize) -> u64
     ensures { called_cut_as result image.new ≡ called_cut image.old session.now command.now stores }
 {
     if !machine_session_bytes::is_session(session) {
@@ -287,12 +282,7 @@ pub fn malquindo_index_build(kind: u16, body: &[u8], places: &mut [u32]) -> u64
 }
 
 // Extends an index of n places after an append.
-pub fn malquindo_index_extend(
-    kind: u16,
-    body: &[u8],
-    places: &mut [u32],
-    n: usize,
-) -> u64
+pub fn malquindo_index_extend(kind: u16, body: &[u8], places: &mut [u32], n: usize) -> u64
     ensures { (result ≡ index_result (extend kind body.now places.old n)) × (places.new ≡ extend_into kind body.now places.old n) }
 {
     let a = store_index::extend(kind as usize, body, places, n);
@@ -376,12 +366,7 @@ fn rights_result(a: RightsRead) -> u64
 }
 
 // Reads the rights of three certificates from their extensions: the bytes that an opening takes.
-pub fn malquindo_rights(
-    first: &[u8],
-    second: &[u8],
-    third: &[u8],
-    rights: &mut [u8],
-) -> u64
+pub fn malquindo_rights(first: &[u8], second: &[u8], third: &[u8], rights: &mut [u8]) -> u64
     ensures { (result ≡ rights_result (read_rights first.now second.now third.now rights.old)) × (rights.new ≡ read_rights_into first.now second.now third.now rights.old) }
 {
     let a = objects_extensions::read_rights(first, second, third, rights);
