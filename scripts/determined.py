@@ -4,9 +4,9 @@
 theorems; here is checked that none is missing.
 
     scripts/determined.py          says which public function has no theorem
-    scripts/determined.py --list   lists those that need none: they only print, or read standard input. A function that prints answers nothing and
-                                   changes nothing that is lent, and its `ensures` says nothing; of what is read the logic knows how much at
-                                   most. docs/AUDIT.md names their crates, under "Is anything left open?"
+    scripts/determined.py --list   lists those that need none: they only print, or read standard input (`read_full`). A function that prints answers
+                                   nothing and changes nothing that is lent, and its `ensures` says nothing; of what is read the logic knows only
+                                   how much it is at most. docs/AUDIT.md names their crates, under "Is anything left open?"
 """
 import collections
 import re
@@ -14,6 +14,9 @@ import sys
 
 sys.dont_write_bytecode = True     # no files beside the scripts
 from definitions import ROOT
+
+# the one function that reads standard input
+READS = ('program_console', 'read_full')
 
 # path: as proofs cite it, its module in front; outside: it prints and does no more, or it reads standard input
 Function = collections.namedtuple('Function', 'crate path place outside')
@@ -38,8 +41,7 @@ def functions():
                 head = ' '.join(x.strip() for x in lines[at:body])
                 name = '.'.join([m for m in module if m != 'lib'] + [match.group(1)])
                 prints = head.endswith(' ensures { Unit {0} }') and '->' not in head and '&mut' not in head
-                reads = re.search(r'\w+: Stdin\b', head) is not None
-                found.append(Function(crate, name, f'{path.relative_to(ROOT)}:{at + 1}', prints or reads))
+                found.append(Function(crate, name, f'{path.relative_to(ROOT)}:{at + 1}', prints or (crate, name) == READS))
     return found
 
 
