@@ -5,16 +5,19 @@ tried here and not by the gate, because each costs some seconds; the gate tries 
     scripts/statements.py [NAME ..]     all of them, or those that are named
 
 Prints where each is refused. The copy begins with what `rt check` kept of these crates on this machine; run it in crates/promises before. One that
-the prover cannot read shows nothing, and counts as not refused."""
+the prover cannot read, or on which it does not end, shows nothing, and counts as not refused."""
+import os
 import pathlib
 import re
 import shutil
+import signal
 import subprocess
 import sys
 import tempfile
 
 ROOT = pathlib.Path(__file__).resolve().parent.parent
 EDITS = ROOT / 'tests' / 'statements'
+SECONDS = 180         # the prover's time for one edit
 
 
 def edited(text, edit):
@@ -27,10 +30,17 @@ def edited(text, edit):
     return text[:start] + text[start:end].replace(edit['old'], edit['new']) + text[end:]
 
 
-def checked(copy):
-    """Whether the prover accepts the copy, and what it says."""
-    run = subprocess.run(['rt', 'check'], cwd=copy / 'crates' / 'promises', capture_output=True, text=True)
-    return run.returncode == 0, run.stdout + run.stderr
+def checked(copy, seconds=None):
+    """Whether the prover accepts the copy, and what it says. None where it has not ended after so many seconds."""
+    run = subprocess.Popen(['rt', 'check'], cwd=copy / 'crates' / 'promises', stdout=subprocess.PIPE, stderr=subprocess.STDOUT, text=True,
+                           start_new_session=True)
+    try:
+        said, _ = run.communicate(timeout=seconds)
+    except subprocess.TimeoutExpired:
+        os.killpg(run.pid, signal.SIGKILL)     # with all that it started
+        run.communicate()
+        return None, ''
+    return run.returncode == 0, said
 
 
 def refused(copy, path):
@@ -42,8 +52,10 @@ def refused(copy, path):
         target.write_text(edited(text, edit), encoding='utf-8')
     except ValueError as problem:
         return False, str(problem)
-    good, said = checked(copy)
+    good, said = checked(copy, SECONDS)
     target.write_text(text, encoding='utf-8')
+    if good is None:
+        return False, f'no answer in {SECONDS} seconds'
     errors = [line for line in said.splitlines() if ': error: ' in line]
     if good or not errors:
         return False, 'not refused'
