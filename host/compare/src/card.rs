@@ -175,9 +175,8 @@ fn large(random: &mut Random) -> Vec<u8> {
     numbers.truncate(3);
     let two = random.one_in(12);
     for (at, n) in numbers.iter().enumerate() {
-        // What the image has room for, a small file behind it and the heads aside. Behind two large
-        // files it may be nothing; the third is small.
-        let left = (make::LONGEST_IMAGE - 1_000).saturating_sub(image.len());
+        // What the image has room for, a small file behind it and the heads aside.
+        let left = make::LONGEST_IMAGE - image.len() - 1_000;
         let body = match at {
             0 => large_body(random, make::LARGEST_ROOM),
             1 if two => large_body(random, left.min(make::LARGEST_ROOM)),
