@@ -1,7 +1,7 @@
 -- When a contract leaves nothing open: whoever fulfils it answers the same and leaves the same bytes.
 --
 -- Rattle makes three terms of a function and its contract: `ps`, the kinds of its parameters; `r`, the kind of its result; and `Post`, what its
--- `ensures` says. A theorem `F-determined` names those of the function F. So it is about the contract as it stands in the code, and it does
+-- `ensures` says. A theorem `F_determined` names those of the function F. So it is about the contract as it stands in the code, and it does
 -- not hold of a contract that says too little.
 use Rattle.std.specs.Prelude.{◌≡◌, List, ℕ, suc}
 use Rattle.std.specs.Int.{w8}

@@ -1,5 +1,5 @@
 -- The shape of a command by the tests that the code makes. Read before: specs/Shape.antt. Exports one law for each answer: `shape-case…` for
--- ISO's seven cases, `shape-…-refused` for what has no shape. `shape_complete` (Laws.antt) says the seven in one.
+-- ISO's seven cases, `shape_…_refused` for what has no shape. `shape_complete` (Laws.antt) says the seven in one.
 use Prim.Native.Nat.{ℕ, ◌+◌, ◌<◌, ◌≤◌}
 use mathlib.Core.Path.{◌≡◌, refl, sym, ◌∙◌}
 use mathlib.Core.Bool.{◌&&◌, and-false}

@@ -1,6 +1,6 @@
 -- The rights: clearing them twice is clearing them once, effective rights are in cleared form, and without its flag an application has no
 -- right. Read before: specs/Chain.antt. Exports `cleared-is`, `effective-cleared`, `effective-length`, `held-length`,
--- `no-…` (a byte without its flag), `unflagged-…`.
+-- `no-…` (a byte without its flag), `unflagged_…`.
 use Prim.Native.Nat.{ℕ, zero, suc, ◌-◌, ◌/◌, ◌%◌, ◌≤◌}
 use mathlib.Core.Path.{◌≡◌, refl, sym, ap, ◌∙◌}
 use mathlib.Core.Bool.{Bool, true, false, and-true, and-false}

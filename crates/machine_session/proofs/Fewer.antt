@@ -1,6 +1,6 @@
 -- Steps 7 to 9 in two sessions that differ in their rights alone, where the second's grant no more: the second's answer is the first's, or that the
 -- right is missing. Read before: specs/Resolve.antt, specs/Joining.antt of machine_rights. Exports `SameOrStop` with
--- its laws; `Weaker`, `current_record-same`; `resolve…-fewer` for each of the four answers.
+-- its laws; `Weaker`, `current_record-same`; `resolve…_fewer` for each of the four answers.
 use Prim.Native.Nat.{ℕ}
 use mathlib.Core.Path.{◌≡◌, refl, ap}
 use mathlib.Core.Bool.{Bool, true, false, not}

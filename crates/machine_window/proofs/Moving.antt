@@ -1,6 +1,6 @@
 -- How far the place of a string may move on: by the least number that leaves the bytes standing that stood before. Read before:
 -- specs/Loops.antt. Exports `Built` (the table so far) with `built-…`, one law for each branch of the loop that makes it, and `Trying` (the
--- place that is tried) with `try-…`, for the two loops that search.
+-- place that is tried) with `try_…`, for the two loops that search.
 use Prim.Native.Nat.{ℕ, zero, suc, ◌+◌, ◌-◌, ◌≤◌, ◌<◌}
 use mathlib.Core.Path.{◌≡◌, refl, sym, ap, subst, ◌∙◌}
 use mathlib.Core.Logic.{⊎_elim}

@@ -1,4 +1,4 @@
--- Windows, each as the code cuts it. Read before: specs/Window.antt. Exports `window-…`, one law for each way out.
+-- Windows, each as the code cuts it. Read before: specs/Window.antt. Exports `window_…`, one law for each way out.
 use Prim.Native.Nat.{ℕ, ◌+◌, ◌-◌, ◌≤◌, ◌<◌}
 use mathlib.Core.Path.{◌≡◌, refl, sym, ◌∙◌}
 use mathlib.Core.List.{List, []}

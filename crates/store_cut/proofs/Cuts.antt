@@ -1,6 +1,6 @@
 -- What a cut leaves of a body: behind every store but the last the records of before, in a body that is well formed; behind the last one the body
 -- after the whole command. Read before: specs/Stores.antt, Making. Exports: `append-made`, `activate-made` (all stores are the command), `cut-…` (what
--- stays behind a cut of an append), `none_made` (no store is made), `stores_empty` (a body that is not there), `length-…-stores`, `…-stores-few`,
+-- stays behind a cut of an append), `none_made` (no store is made), `stores_empty` (a body that is not there), `length-…-stores`, `…-stores_few`,
 -- `stores_small` (how many there are).
 use Prim.Native.Nat.{ℕ, zero, suc, ◌+◌, ◌-◌, ◌/◌, ◌%◌, ◌≤◌, ◌<◌}
 use mathlib.Core.Path.{◌≡◌, refl, sym, ap, ap₂, ◌∙◌}

@@ -1,5 +1,5 @@
 -- An image as its files: a file's body is found, another is put in its place, all others stay.
--- Read before: specs/Image.antt. Exports: `…-found`, `…-missing` (by what a search finds), `There`, `has-at`, `body-well_formed`, `has-present`,
+-- Read before: specs/Image.antt. Exports: `…-found`, `…_missing` (by what a search finds), `There`, `has-at`, `body-well_formed`, `has-present`,
 -- `with_body-…` (the image with another body of the same length).
 use Prim.Native.Nat.{ℕ, ◌+◌, ◌-◌}
 use mathlib.Core.Path.{◌≡◌, refl, sym, ap, ◌∙◌}

@@ -1,6 +1,6 @@
 -- A new body of the same length in a section's place: what is found stays found, other bodies stay, and the image stays well formed.
 -- Read before: specs/Image.antt, Sections. Exports: `Way`, `way` (the section at hand is found or passed), `found-…` (what is found lies in the
--- image, apart from others, and is right for its kind), `spliced-…` (the image with the new body).
+-- image, apart from others, and is right for its kind), `spliced_…` (the image with the new body).
 use Prim.Native.Nat.{ℕ, zero, suc, ◌+◌, ◌-◌, ◌≤◌, ◌<◌}
 use mathlib.Core.Path.{◌≡◌, refl, sym, ap, ◌∙◌}
 use mathlib.Core.Bool.{Bool, true, false, ◌&&◌}

@@ -1,5 +1,5 @@
 -- What each function of an index answers and leaves of the list, by the tests in their order.
--- Read before: specs/Index.antt, Places. Exports: `Builds`, `build_ok-…`, `build-…`; `Extends`, `extend_ok-…`, `extend-…`; `whole-…`, `read_ok-…`, `measure-…`;
+-- Read before: specs/Index.antt, Places. Exports: `Builds`, `build_ok_…`, `build-…`; `Extends`, `extend_ok_…`, `extend-…`; `whole-…`, `read_ok_…`, `measure-…`;
 -- `Measured`, `Told`, `told` (what an answer of `measure` tells); `part-…` (what is returned).
 use Prim.Native.Nat.{ℕ, ◌+◌, ◌-◌, ◌≤◌, ◌<◌, min}
 use mathlib.Core.Path.{◌≡◌, refl, sym, ap, ◌∙◌, subst}

@@ -1,5 +1,5 @@
 -- A place in the old image: what stands there, and the place behind it.
--- Read before: specs/Loops.antt. Exports: `stand_start`, `stand_next`, `Here`, `here` (what stands at a place), `met-…`, `meets-…` (whether it is of a
+-- Read before: specs/Loops.antt. Exports: `stand_start`, `stand_next`, `Here`, `here` (what stands at a place), `met_…`, `meets-…` (whether it is of a
 -- kind).
 use Prim.Native.Nat.{ℕ, zero, suc, ◌+◌, ◌≤◌, ◌<◌}
 use mathlib.Core.Path.{◌≡◌, refl, sym, ap, ◌∙◌}

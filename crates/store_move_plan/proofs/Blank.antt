@@ -1,6 +1,6 @@
 -- The image that a list lays out with all its files empty: the rows answer for its sections.
--- Read before: specs/Rooms.antt, Rows, Search. Exports: `Looking`, `look-…`, `row_listed` (a kind that has a row), `row_order`, `row_room_lem`,
--- `row_rest` (one row), `Laying`, `lay-…`, `plan-…` (all rows).
+-- Read before: specs/Rooms.antt, Rows, Search. Exports: `Looking`, `look_…`, `row_listed` (a kind that has a row), `row_order`, `row_room_lem`,
+-- `row_rest` (one row), `Laying`, `lay_…`, `plan-…` (all rows).
 use Prim.Native.Nat.{ℕ, zero, suc, ◌+◌, ◌-◌, ◌%◌, ◌≤◌, ◌<◌}
 use mathlib.Core.Path.{◌≡◌, refl, sym, ap, subst, ◌∙◌}
 use mathlib.Core.Bool.{true, false}

@@ -1,5 +1,5 @@
 -- A search for a kind in the image that a list lays out: it goes from row to row.
--- Read before: specs/Rooms.antt, Rows. Exports: `Fits`, `all_rows`, `whole_row`, `Looking`, `look-…` (the search), `same_place`, `same_length` (two
+-- Read before: specs/Rooms.antt, Rows. Exports: `Fits`, `all_rows`, `whole_row`, `Looking`, `look_…` (the search), `same_place`, `same_length` (two
 -- contents in the same rooms).
 use Prim.Native.Nat.{ℕ, zero, suc, ◌+◌, ◌≤◌, ◌<◌}
 use mathlib.Core.Path.{◌≡◌, refl, sym, ap, subst, ◌∙◌}
