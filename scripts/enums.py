@@ -1,8 +1,9 @@
 #!/usr/bin/env python3
-"""Checks the table of clause C2 in docs/RULES.md: a definition for the cases of each answer.
+"""Checks the tables of clause C2 in docs/RULES.md: a definition for the cases of each answer.
 
-Every public enum that a public function of a library answers, as its result or inside it, stands in one row. The definition in that row is
-one of crates/*/specs/, and its text names each case of the enum."""
+Every public enum that a public function of a library answers, as its result or inside it, stands in one row. So does every public function
+that answers an `Option` or a `Result`, by its crate and its name. The definition in that row is one of crates/*/specs/, and its text names each
+case: those of the enum, `Some` and `None`, or `Ok` and `Err`."""
 import re
 import sys
 
@@ -11,32 +12,39 @@ from definitions import ROOT, believed_files, definitions_of
 from rules import RULES, clauses
 
 TYPE = re.compile(r'^pub (enum|struct) (\w+) \{\n(.*?)^\}', re.M | re.S)
-FUNCTION = re.compile(r'^pub (?:extern "C" )?fn \w+\([^)]*\) -> ([^\n]+)$', re.M)
+ALIAS = re.compile(r'^pub type (\w+) = ([^;]+);', re.M)
+FUNCTION = re.compile(r'^pub (?:extern "C" )?fn (\w+)(?:<[^>]*>)?\([^)]*\) -> ([^\n]+)$', re.M)
 CASE = re.compile(r'^    ([A-Z]\w*)', re.M)
 NAME = re.compile(r'\b[A-Z]\w*')
-ROW = re.compile(r'^  \| `(\w+)` \| `([^`]+)` \|')
+ROW = re.compile(r'^  \| `(\w+(?:::\w+)?)` \| `([^`]+)` \|')
+CASES = {'Option': ['Some', 'None'], 'Result': ['Ok', 'Err']}
 
 
 def sources():
     """The text of each source file of a library, without comments."""
     for path in sorted(ROOT.glob('crates/*/src/**/*.rt')):
         if (ROOT / 'crates' / path.relative_to(ROOT / 'crates').parts[0] / 'src/lib.rt').exists():
-            yield re.sub(r'//[^\n]*', '', path.read_text(encoding='utf-8'))
+            yield path.relative_to(ROOT / 'crates').parts[0], re.sub(r'//[^\n]*', '', path.read_text(encoding='utf-8'))
 
 
 def answered():
-    """The enums that public functions answer, each with its cases."""
-    types, results = {}, []
-    for text in sources():
+    """The enums that public functions answer, and the functions that answer an `Option` or a `Result`, each with its cases."""
+    types, results, functions = {}, [], {}
+    aliases = {name: meant for _, text in sources() for name, meant in ALIAS.findall(text)}
+    for crate, text in sources():
         types.update({name: (kind, inside) for kind, name, inside in TYPE.findall(text)})
-        results += FUNCTION.findall(text)
+        for name, result in FUNCTION.findall(text):
+            result = aliases.get(result, result)
+            results.append(result)
+            functions.update({f'{crate}::{name}': cases for word, cases in CASES.items() if result.startswith(word + '<')})
     reached, open_ones = set(), [name for result in results for name in NAME.findall(result)]
     while open_ones:
         name = open_ones.pop()
         if name in types and name not in reached:
             reached.add(name)
             open_ones += NAME.findall(types[name][1])
-    return {name: CASE.findall(types[name][1]) for name in sorted(reached) if types[name][0] == 'enum'}
+    enums = {name: CASE.findall(inside) for name, (kind, inside) in sorted(types.items()) if kind == 'enum'}
+    return functions | {name: cases for name, cases in enums.items() if name in reached}, enums
 
 
 def texts():
@@ -54,7 +62,8 @@ def main():
     lines = RULES.read_text(encoding='utf-8').splitlines()
     block = next(lines[start:end] for name, start, end in clauses(lines) if name == 'C2')
     rows = [row.groups() for row in map(ROW.match, block) if row]
-    enums, definitions, wrong = answered(), texts(), []
+    (enums, others), definitions, wrong = answered(), texts(), []
+    enums |= {enum: others[enum] for enum, _ in rows if enum in others}     # an argument that has cases may have a row, too
     for enum in sorted(set(enums) | {enum for enum, _ in rows}):
         cited = [definition for other, definition in rows if other == enum]
         if enum not in enums:

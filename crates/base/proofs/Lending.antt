@@ -1,12 +1,11 @@
 -- A part of a slice that is lent is one thing: its place and its length determine its bytes and where it stands in memory.
--- Read before: specs/Lent.antt. Exports `part_of_same`; `whole_part_there`, `whole_part_lacking` (a part that is all there, and one that is not);
--- `whole_part_is` (which part it is).
-use Prim.Native.Nat.{ℕ, ◌+◌, ◌≤◌, ◌<◌}
+-- Read before: specs/Lent.antt. Exports `part_of_same`, and `whole_part_is` (which part it is, where it is all there).
+use Prim.Native.Nat.{ℕ, ◌+◌, ◌≤◌}
 use mathlib.Core.Path.{◌≡◌, sym, ◌∙◌, subst}
 use mathlib.Core.Bool.{Bool, true}
 use mathlib.Core.List.{List}
 use lib.ListN.{length}
-use borrow.Author.Tests.{le-leb, lt-leb}
+use borrow.Author.Tests.{le-leb}
 use denote.Ref.{Bor}
 use Rattle.base.specs.Choice.{if_else}
 use Rattle.base.specs.Lent.{PartOf, whole_fits, WholePart}
@@ -23,13 +22,6 @@ module _ (s : Bor (List ℕ)) (a n : ℕ) (r : Bor (List ℕ)) where
   fits : a + n ≤ length s.now → whole_fits s.now a n ≡ true
   unfolding whole_fits
   fits h = le-leb _ _ h
-
-  pub whole_part_there : a + n ≤ length s.now → PartOf s a n r → WholePart s a n r
-  whole_part_there h p = subst Whole (sym (fits h)) p
-
-  pub whole_part_lacking : length s.now < a + n → PartOf s 0 0 r → WholePart s a n r
-  unfolding whole_fits
-  whole_part_lacking h p = subst Whole (sym (lt-leb _ _ h)) p
 
   pub whole_part_is : a + n ≤ length s.now → WholePart s a n r → PartOf s a n r
   whole_part_is h c = subst Whole (fits h) c

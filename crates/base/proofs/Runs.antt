@@ -1,5 +1,5 @@
--- A run of bytes stored in a list. Read before: specs/Bytes.antt. Exports the laws of `sets` that the library lacks, `sets-turn` and
--- `sets-done` (one turn of a loop that copies, and its end), `put_fits_accepted`, `put_accepted` and their likes, and `put-behind`.
+-- A run of bytes stored in a list. Read before: specs/Bytes.antt. Exports the laws of `sets` that the library lacks, `sets-turn` (one turn
+-- of a loop that copies), `put_fits_accepted`, `put_accepted` and their likes, and `put-behind`.
 use Prim.Native.Nat.{ℕ, suc, ◌+◌, ◌≤◌, ◌<◌}
 use mathlib.Core.Path.{◌≡◌, refl, sym, ap, ◌∙◌}
 use mathlib.Core.Bool.{true, false}
@@ -8,7 +8,7 @@ use native.Mathlib.Omega.{arith}
 use native.Mathlib.Numerals.{add-one}
 use native.Mathlib.Nat.{add-zero, add-suc}
 use lib.ListN.{length, get_or, take, drop, set, length-append}
-use lib.Seq.{sets, get_or-set_other, drop-set-lt, drop-set-add, take-suc, length-sets, sets-eq, drop_at, take_at, length-take-le, take_all}
+use lib.Seq.{sets, get_or-set_other, drop-set-lt, drop-set-add, take-suc, length-sets, sets-eq, drop_at, take_at, length-take-le}
 use borrow.Author.Tests.{le-leb, lt-leb}
 use Rattle.base.specs.Bytes.{part, put_fits, put}
 use Rattle.base.proofs.Cases.{if_else_ind}
@@ -17,7 +17,7 @@ pub sets_snoc : (l : List ℕ) (i : ℕ) (vs : List ℕ) (a : ℕ) → sets l i 
 sets_snoc l i [] a = simp add-zero
 sets_snoc l i (v ∷ vs) a = sets_snoc (set l i v) (suc i) vs a ∙ ap (λ (k : ℕ). set (sets (set l i v) (suc i) vs) k a) (omega arith)
 
--- one turn of a loop that copies, and its end
+-- one turn of a loop that copies
 pub sets-turn : (l d : List ℕ) (i : ℕ) (s : List ℕ) (j : ℕ) → d ≡ sets l i (take j s) → j < length s → set d (i + j) (get_or s j 0) ≡ sets l i (take (j + 1) s)
 sets-turn l d i s j q h =
     let e : length (take j s) ≡ j = length-take-le j s (omega arith) in
@@ -26,9 +26,6 @@ sets-turn l d i s j q h =
     ∙ ap (sets l i) (take-suc s j 0 h)
     ∙ sets_snoc l i (take j s) (get_or s j 0)
     ∙ ap (λ (k : ℕ). set (sets l i (take j s)) (i + k) (get_or s j 0)) e)
-
-pub sets-done : (l d : List ℕ) (i : ℕ) (s : List ℕ) (j : ℕ) → d ≡ sets l i (take j s) → length s ≤ j → d ≡ sets l i s
-sets-done l d i s j q h = q ∙ ap (sets l i) (take_all j s h)
 
 -- before the run
 pub get_d_sets_before : (l : List ℕ) (i : ℕ) (vs : List ℕ) (p : ℕ) → p < i → get_or (sets l i vs) p 0 ≡ get_or l p 0

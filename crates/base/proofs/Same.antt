@@ -1,14 +1,12 @@
--- The same bytes: what settles that they are, and that they are not. Read before: specs/Bytes.antt. Exports `same_equal`, `same_refl`,
--- `same_elements`, `same_differ`, `same_length`.
-use Prim.Native.Nat.{ℕ, zero, suc, ◌<◌}
-use mathlib.Core.Path.{◌≡◌, refl, ap₂}
-use mathlib.Core.Bool.{true, false, and-false}
+-- The same bytes: what settles that they are, and what `==` answers. Read before: specs/Bytes.antt. Exports `same_equal`, `same_refl`,
+-- `same_pointwise`.
+use Prim.Native.Nat.{ℕ}
+use mathlib.Core.Path.{◌≡◌, refl, ap, ap₂}
+use mathlib.Core.Bool.{Bool, true, ◌&&◌}
 use mathlib.Core.List.{List, [], ◌∷◌}
-use native.Mathlib.Omega.{arith}
-use lib.ListN.{length, get_or}
-use lib.Seq.{ext_get_or}
 use lib.Dec.{eqb}
-use borrow.Author.Tests.{eq-eqb, ne_eqb, eqb-true}
+use lib.Pointwise.{pointwise}
+use borrow.Author.Tests.{eq-eqb, eqb-true}
 use Rattle.base.specs.Bytes.{same_bytes}
 use Rattle.base.proofs.Cases.{false-true, and_left, and_right}
 
@@ -24,20 +22,10 @@ unfolding same_bytes
 same_refl [] = refl
 same_refl (a ∷ x) = simp (eq-eqb a a refl) (same_refl x)
 
-pub same_elements : (x y : List ℕ) → length x ≡ length y → ((j : ℕ) → j < length x → get_or x j 0 ≡ get_or y j 0) → same_bytes x y ≡ true
-same_elements x y e h = rw (ext_get_or 0 x y e h) (same_refl y)
-
-pub same_differ : (x y : List ℕ) (k : ℕ) → (get_or x k 0 ≡ get_or y k 0 → ⊥) → same_bytes x y ≡ false
+-- what `==` of slices answers
+pub same_pointwise : (x y : List ℕ) → pointwise eqb x y ≡ same_bytes x y
 unfolding same_bytes
-same_differ [] [] k h = absurd (h refl)
-same_differ [] (b ∷ y) k h = refl
-same_differ (a ∷ x) [] k h = refl
-same_differ (a ∷ x) (b ∷ y) zero h = simp (ne_eqb a b h)
-same_differ (a ∷ x) (b ∷ y) (suc k) h = simp (same_differ x y k h, and-false)
-
-pub same_length : (x y : List ℕ) → (length x ≡ length y → ⊥) → same_bytes x y ≡ false
-unfolding same_bytes
-same_length [] [] h = absurd (h refl)
-same_length [] (b ∷ y) h = refl
-same_length (a ∷ x) [] h = refl
-same_length (a ∷ x) (b ∷ y) h = simp (same_length x y (λ e. h (omega arith)), and-false)
+same_pointwise [] [] = refl
+same_pointwise [] (b ∷ y) = refl
+same_pointwise (a ∷ x) [] = refl
+same_pointwise (a ∷ x) (b ∷ y) = ap (λ (t : Bool). eqb a b && t) (same_pointwise x y)

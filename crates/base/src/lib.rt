@@ -12,78 +12,53 @@ ghost use Rattle.base.specs.Lent.{WholePart};
 pub fn byte(s: &[u8], i: usize) -> usize
     ensures { (result ≡ get_or s.now i 0) × (result < 256) }
 {
-    if i < s.len() {
-        return s[i] as usize;
-    }
-    0
+    if i < s.len() { usize::from(s[i]) } else { 0 }
 }
 
 // The n bytes from `a` on, as the part of s that they are, cut at its end.
 pub fn part(s: &[u8], a: usize, n: usize) -> &[u8]
     ensures { result.now ≡ part_of s.now a n }
 {
-    let l = s.len();
-    if l <= a {
-        return &s[l..];
-    }
-    if l - a < n {
-        return &s[a..];
-    }
-    let e = a + n;
-    &s[a..e]
+    let rest = &s[a.min(s.len())..];
+    &rest[..n.min(rest.len())]
 }
 
 // The n bytes from `a` on, as that very part of s, and whole; the empty part at its start where s has not all of them.
+#[tactic(auto, unfolding(crate::specs::Lent::whole_fits))]
 pub fn whole_part(s: &[u8], a: usize, n: usize) -> &[u8]
     ensures { WholePart s.entry a n result }
 {
-    if s.len() < a {
-        return &s[0..0];
+    if s.len() < a || s.len() - a < n {
+        &s[0..0]
+    } else {
+        &s[a..a + n]
     }
-    if s.len() - a < n {
-        return &s[0..0];
-    }
-    let e = a + n;
-    &s[a..e]
 }
 
 // Whether x and y are the same bytes.
 pub fn same_bytes(x: &[u8], y: &[u8]) -> bool
     ensures { result ≡ same_bytes x.now y.now }
 {
-    if x.len() != y.len() {
-        return false;
-    }
-    let mut i = 0;
-    while i < x.len() {
-        if x[i] != y[i] {
-            return false;
-        }
-        i += 1;
-    }
-    true
+    x == y
 }
 
-// Copies src into dst from `at` on.
+// Copies src into dst from `at` on, one byte after the other. (No `copy_from_slice`: it leaves the order of the stores open, and those of a
+// record have one.)
 fn copy_in(dst: &mut [u8], at: usize, src: &[u8])
     requires { at + length src.now ≤ length dst.old }
     ensures { dst.new ≡ sets dst.old at src.now }
 {
-    let mut i = 0;
-    while i < src.len() {
-        dst[at + i] = src[i];
-        i += 1;
+    for (i, byte) in src.iter().enumerate() {
+        dst[at + i] = *byte;
     }
 }
 
 // Stores src in dst from `at` on, where all of it fits; else it stores nothing. Answers whether it fitted.
+#[tactic(auto, unfolding(crate::specs::Bytes::put_fits, crate::specs::Bytes::put))]
 pub fn put(dst: &mut [u8], at: usize, src: &[u8]) -> bool
     ensures { (result ≡ fits_at dst.old at src.now) × (dst.new ≡ put_at dst.old at src.now) }
 {
-    if dst.len() < at {
-        return false;
-    }
-    if dst.len() - at < src.len() {
+    if dst.len() < at || dst.len() - at < src.len() {
         return false;
     }
     copy_in(dst, at, src);

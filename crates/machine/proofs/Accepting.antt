@@ -1,6 +1,6 @@
 -- From a command to what it comes to, and what is known of an accepted command. Read specs/Step.antt and specs/Lent.antt before. Exports
--- `slice_bytes`, `Known`, `verdict_accepted`; `judged-by`, `judged-told` (what a judgement tells), `shaped_course`; `obey-…` (the
--- whole command); `command-…` (what the code answers is the definition's, case by case).
+-- `slice_bytes`, `Known`, `verdict_accepted`; `judged-told` (what a judgement tells); `obey-…` (the whole
+-- command); `command-…` (what the code answers is the definition's, case by case).
 use Prim.Native.Nat.{ℕ, ◌+◌, ◌≤◌, ◌<◌}
 use mathlib.Core.Path.{◌≡◌, refl, sym, ap, ap₂, ◌∙◌, subst}
 use mathlib.Core.Bool.{Bool, true}
@@ -16,29 +16,24 @@ use Rattle.base.proofs.Parts.{length_part}
 use Rattle.store_image.specs.Image.{well_formed}
 use Rattle.machine_apdu.specs.Status.{normal}
 use Rattle.machine_apdu.specs.Shape.{shape_of}
-use Rattle.machine_apdu.specs.declared.Apdu.{Apdu}
-use Rattle.machine_apdu.specs.declared.Apdu.TheVariants.{Bad, Good}
 use Rattle.machine_apdu.specs.declared.Frame.{Frame}
 use Rattle.machine_apdu.proofs.Laws.{shape_facts}
 use Rattle.machine_session.specs.Session.{session_fits}
 use Rattle.machine_session.specs.Verdict.{verdict}
 use Rattle.machine_session.specs.declared.Refusal.{Refusal}
 use Rattle.machine_session.specs.declared.Session.{Session}
-use Rattle.machine_session.specs.declared.Verdict.{Verdict}
-use Rattle.machine_session.specs.declared.Verdict.TheVariants.{Accepted, Refused}
 use Rattle.machine_chain.specs.Chain.{Chain, NoChain, is_amid, so_far, extended}
 use Rattle.machine_chain.specs.Layout.{no_chain_bytes, is_chain, chain_in, join_into}
 use Rattle.machine_chain.proofs.Laws.{extend-whole}
 use Rattle.machine_chain.proofs.Joining.{joined_data, ended}
 use Rattle.machine_link.specs.Link.{turn, lent_fits}
 use Rattle.machine_link.specs.declared.Course.{Course}
-use Rattle.machine_link.specs.declared.Course.TheVariants.{Stops, Extends, Goes}
+use Rattle.machine_link.specs.declared.Course.TheVariants.{Extends, Goes}
 use Rattle.machine_link.proofs.Turning.{Turned, joined, gone, turn-told, extending_few, going_few}
 use Rattle.machine_dispatch.specs.Decide.{by_class, whole_frame, decide, data_of, chain_behind}
 use Rattle.machine_dispatch.specs.Loops.{Allowed}
 use Rattle.machine_dispatch.proofs.Allowing.{class-from, from_allowed}
 use Rattle.machine_action.specs.declared.Action.{Action}
-use Rattle.machine_action.specs.declared.Action.TheVariants.{Status}
 use Rattle.machine_answer.specs.Outcome.{Outcome, outcome, word, answered, refused, says}
 use Rattle.machine_answer.specs.declared.Answer.{Answer}
 use Rattle.machine.specs.Effects.{done}
@@ -47,6 +42,7 @@ use Rattle.machine.specs.Lent.{verdict_lent, judged_course, judged_shape, judged
 use Rattle.machine.specs.Loops.{Ready, obeyed}
 use Rattle.machine.specs.declared.Judgement.{Judgement}
 use Rattle.machine.specs.declared.Judgement.TheVariants.{Denied, Stopped, Linked, Obeyed}
+use Rattle.std.specs.Prelude.{Option, Some, None, Result, Ok, Err}
 
 -- a slice holds bytes
 pub slice_bytes : (xs : List ℕ) → ((i : ℕ) → get_or xs i 0 < 256) → AllBytes xs
@@ -54,9 +50,9 @@ unfolding AllBytes
 slice_bytes xs h = h
 
 -- what is known of an accepted command
-abbrev pub Known : List ℕ → Bool → ℕ → Verdict → Type 0
-Known img fits n Accepted = (well_formed img ≡ true) × (2050 ≤ n) × (fits ≡ true)
-Known img fits n (Refused r) = Unit {0}
+abbrev pub Known : List ℕ → Bool → ℕ → Result (Unit {0}) Refusal → Type 0
+Known img fits n (Ok tt) = (well_formed img ≡ true) × (2050 ≤ n) × (fits ≡ true)
+Known img fits n (Err r) = Unit {0}
 
 pub verdict_accepted : (img : List ℕ) (fits : Bool) (n : ℕ) → Known img fits n (verdict img fits n)
 unfolding verdict
@@ -67,11 +63,11 @@ verdict_accepted img fits n =
 
 -- what a command comes to that stops, is a link, or is obeyed: its action, its data, the chain behind it
 pub record StoppedBy (img : List ℕ) (s : Session) (ch : Chain) (cmd : List ℕ) (w : ℕ) : Type 0 where
-  pub action : decide img s ch cmd ≡ Status w
+  pub action : decide img s ch cmd ≡ Err w
   pub behind : chain_behind ch cmd ≡ NoChain
 
 pub record LinkedBy (img : List ℕ) (s : Session) (ch : Chain) (cmd : List ℕ) (f : Frame) : Type 0 where
-  pub action : decide img s ch cmd ≡ Status normal
+  pub action : decide img s ch cmd ≡ Err normal
   pub behind : chain_behind ch cmd ≡ extended ch f.header (part cmd f.from f.lc)
   pub few : length (so_far ch) + length (part cmd f.from f.lc) ≤ 1024
 
@@ -84,7 +80,7 @@ pub record ObeyedBy (img : List ℕ) (s : Session) (ch : Chain) (cmd : List ℕ)
 
 -- an accepted command, and bytes that are a chain
 pub record Taken (img : List ℕ) (s : Session) (xs : List ℕ) (n : ℕ) : Type 0 where
-  pub verdict-is : verdict_lent img s xs n ≡ Accepted
+  pub verdict-is : verdict_lent img s xs n ≡ (Ok tt)
   pub well : well_formed img ≡ true
   pub long : 2050 ≤ n
   pub chain : is_chain xs ≡ true
@@ -94,56 +90,46 @@ module _ (img : List ℕ) (s : Session) (xs cmd : List ℕ) (n : ℕ) where
   ch = chain_in xs
 
   abbrev pub Told : Judgement → Type 0
-  Told (Denied r) = verdict_lent img s xs n ≡ Refused r
+  Told (Denied r) = verdict_lent img s xs n ≡ Err r
   Told (Stopped w) = Taken img s xs n × StoppedBy img s ch cmd w
   Told (Linked f) = Taken img s xs n × LinkedBy img s ch cmd f
   Told (Obeyed f) = Taken img s xs n × ObeyedBy img s ch cmd f
 
-  taken : verdict_lent img s xs n ≡ Accepted → Taken img s xs n
+  taken : verdict_lent img s xs n ≡ (Ok tt) → Taken img s xs n
   unfolding lent_fits
   taken e =
       let k = subst (Known img (all_of (session_fits img s ∷ lent_fits xs ∷ [])) n) e (verdict_accepted img (all_of (session_fits img s ∷ lent_fits xs ∷ [])) n) in
       record { verdict-is = e; well = k.0; long = k.1; chain = (all_of_facts _ (all_of_facts _ k.2).1.0).0 }
 
-  module _ (f : Frame) (e : shape_of cmd ≡ Good f) where
+  module _ (f : Frame) (e : shape_of cmd ≡ Some f) where
     own-size : length (part cmd f.from f.lc) ≡ f.lc
     own-size = length_part cmd f.from f.lc (shape_facts cmd (shape_of cmd) f refl e).inside
 
-    by-course : (k : Course) → turn ch f ≡ k → Turned ch f k → Taken img s xs n → Told (judged_course k f)
+    by-course : (k : Result Course ℕ) → turn ch f ≡ k → Turned ch f k → Taken img s xs n → Told (judged_course k f)
     unfolding decide data_of chain_behind
-    by-course (Stops w) t x a = (a, record { action = simp (e, t); behind = simp (e, t) })
-    by-course Extends t (joined x) a = (a, record { action = simp (e, t); behind = simp (e, t); few = omega (arith, own-size, extending_few ch f x) })
-    by-course Goes t (gone x) a =
+    by-course (Err w) t x a = (a, record { action = simp (e, t); behind = simp (e, t) })
+    by-course (Ok Extends) t (joined x) a = (a, record { action = simp (e, t); behind = simp (e, t); few = omega (arith, own-size, extending_few ch f x) })
+    by-course (Ok Goes) t (gone x) a =
         (a, record { action = simp (e, t); data_is = simp e; behind = simp (e, t); size = own-size; few = omega (arith, own-size, going_few ch f (shape_facts cmd (shape_of cmd) f refl e).few x) })
 
-  by_shape : (a : Apdu) → shape_of cmd ≡ a → Taken img s xs n → Told (judged_shape ch a)
+  by_shape : (a : Option Frame) → shape_of cmd ≡ a → Taken img s xs n → Told (judged_shape ch a)
   unfolding decide chain_behind
-  by_shape Bad e a = (a, record { action = simp e; behind = simp e })
-  by_shape (Good f) e a = by-course f e (turn ch f) refl (turn-told ch f) a
+  by_shape None e a = (a, record { action = simp e; behind = simp e })
+  by_shape (Some f) e a = by-course f e (turn ch f) refl (turn-told ch f) a
 
-  by-verdict : (v : Verdict) → verdict_lent img s xs n ≡ v → Told (judged_by v ch cmd)
-  by-verdict Accepted e = by_shape (shape_of cmd) refl (taken e)
-  by-verdict (Refused r) e = e
+  by-verdict : (v : Result (Unit {0}) Refusal) → verdict_lent img s xs n ≡ v → Told (judged_by v ch cmd)
+  by-verdict (Ok tt) e = by_shape (shape_of cmd) refl (taken e)
+  by-verdict (Err r) e = e
 
   pub judged-told : {j : Judgement} → judged img s xs cmd n ≡ j → Told j
   unfolding judged
   judged-told e = subst Told e (by-verdict (verdict_lent img s xs n) refl)
-
-  pub judged-by : {v : Verdict} {fits : Bool} (w : Verdict) → v ≡ verdict img fits n → fits ≡ all_of (session_fits img s ∷ lent_fits xs ∷ []) → v ≡ w
-      → judged_by w ch cmd ≡ judged img s xs cmd n
-  unfolding judged
-  judged-by w ev ef e = ap (λ (x : Verdict). judged_by x ch cmd) (sym e ∙ ev ∙ ap (λ (b : Bool). verdict img b n) ef)
 
   pub obey_ready : {f : Frame} {own : List ℕ} → judged img s xs cmd n ≡ Obeyed f → own ≡ part cmd f.from f.lc → Ready img xs f own n
   obey_ready {f} e x =
       let t = judged-told e in
       subst (λ (o : List ℕ). Ready img xs f o n) (sym x)
       (record { well = t.0.well; long = t.0.long; chain = t.0.chain; fits = t.1.few; size = t.1.size })
-
--- what the code answers of a shape, by its course
-pub shaped_course : (ch : Chain) (cmd : List ℕ) (f : Frame) {a : Apdu} {k : Course} (m : Course) → a ≡ shape_of cmd → a ≡ Good f → k ≡ turn ch f → k ≡ m
-    → judged_course m f ≡ judged_shape ch (shape_of cmd)
-shaped_course ch cmd f m e g t k = sym (ap (judged_shape ch) (sym e ∙ g) ∙ ap (λ (z : Course). judged_course z f) (sym t ∙ k))
 
 -- ---- the whole command: its data, its frame, and what it relies on
 
@@ -169,17 +155,17 @@ module _ (img : List ℕ) (s : Session) (xs : List ℕ) (f : Frame) (own : List 
     frame_is : frame ≡ whole_frame (chain_in xs) f
     frame_is = λ i. record { header = f.header; from = f.from; lc = (ap length (obey_data e) ∙ whole_length) i; le = f.le; ne = f.ne }
 
-    pub obey_allowed : {x : Action} → x ≡ by_class img s frame d → AllBytes d → (well_formed img ≡ true) × (2050 ≤ n) × Allowed img d x
+    pub obey_allowed : {x : Result Action ℕ} → x ≡ by_class img s frame d → AllBytes d → (well_formed img ≡ true) × (2050 ≤ n) × Allowed img d x
     obey_allowed {x} ex b = (
       r.well,
       r.long,
       subst (Allowed img d) (sym ex) (from_allowed img s frame d (by_class img s frame d) b (class-from img s frame d refl)),
     )
 
-    pub obey_done : {x : Action} (buf : List ℕ) {o : Outcome} → x ≡ by_class img s frame d → o ≡ done x img s d buf → o ≡ obeyed img s (chain_in xs) f own buf
+    pub obey_done : {x : Result Action ℕ} (buf : List ℕ) {o : Outcome} → x ≡ by_class img s frame d → o ≡ done x img s d buf → o ≡ obeyed img s (chain_in xs) f own buf
     obey_done {x} buf ex eo =
         eo
-        ∙ ap (λ (z : Action). done z img s d buf) (ex ∙ ap (λ (g : Frame). by_class img s g d) frame_is)
+        ∙ ap (λ (z : Result Action ℕ). done z img s d buf) (ex ∙ ap (λ (g : Frame). by_class img s g d) frame_is)
         ∙ ap (λ (l : List ℕ). done (by_class img s (whole_frame (chain_in xs) f) l) img s l buf) (obey_data e)
 
 -- ---- a command, and its chain's bytes, from what it comes to
@@ -221,6 +207,6 @@ module _ (img : List ℕ) (s : Session) (xs cmd buf : List ℕ) where
       let t = judged-told img s xs cmd n e in (
         rw t.0.verdict-is
             (x.0 ∙ ap (λ (l : List ℕ). obeyed img s (chain_in xs) f l buf) o
-            ∙ sym (ap₂ (λ (k : Action) (l : List ℕ). done k img s l buf) t.1.action t.1.data_is)),
+            ∙ sym (ap₂ (λ (k : Result Action ℕ) (l : List ℕ). done k img s l buf) t.1.action t.1.data_is)),
         rw t.0.verdict-is (rw t.1.behind x.1),
       )

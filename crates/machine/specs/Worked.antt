@@ -1,11 +1,10 @@
 -- The card to try, m1 to m10: lay it beside clause T1 of docs/RULES.md. Commands and answers stand here as bytes, and every byte of image
 -- and response afterwards is said. `Worked` is the whole statement; the theorem `worked` is in ../proofs/Worked.antt.
-use Rattle.std.specs.Prelude.{ℕ, ◌+◌, ◌-◌, ◌/◌, ◌%◌, ◌≡◌, List, [], ◌∷◌, ◌++◌, length, take, replicate}
+use Rattle.std.specs.Prelude.{ℕ, ◌+◌, ◌-◌, ◌/◌, ◌%◌, ◌≡◌, List, [], ◌∷◌, ◌++◌, length, take, replicate, Ok}
 use Rattle.machine_session.specs.Session.{opened}
 use Rattle.machine_session.specs.declared.Place.{Place}
 use Rattle.machine_session.specs.declared.Place.TheVariants.{Nowhere, OnRecord}
 use Rattle.machine_session.specs.declared.Session.{Session}
-use Rattle.machine_session.specs.declared.Verdict.TheVariants.{Accepted}
 use Rattle.machine_chain.specs.Chain.{NoChain}
 use Rattle.machine_answer.specs.Outcome.{Outcome}
 use Rattle.machine.specs.Step.{step}
@@ -54,7 +53,7 @@ exchange c d w p rs = record { command = c; answers = d; status = w; place = p; 
 -- 2,050 zeros were lent: now they begin with the data, SW1 and SW2; the length counts these [T1]
 unfoldable pub replies_with : List ℕ → ℕ → Session → List ℕ → Outcome
 replies_with d w s img = record {
-  answer = record { verdict = Accepted; length = length d + 2; status = w; session = s };
+  answer = record { verdict = (Ok tt); length = length d + 2; status = w; session = s };
   image = img;
   buffer = d ++ (w / 256 ∷ w % 256 ∷ replicate (2048 - length d) 0);
 }

@@ -16,30 +16,32 @@ ghost use Rattle.machine_dispatch.specs.Loops.{Allowed};
 ghost use Rattle.machine_answer.specs.Outcome.{outcome, word, answered, refused as refused_as};
 ghost use Rattle.machine.specs.Effects.{searched, done};
 ghost use Rattle.machine.specs.Step.{opening};
-ghost use Rattle.machine.specs.Lent.{judged_shape, judged, step_lent, chain_into};
+ghost use Rattle.machine.specs.Lent.{judged_course, judged_shape, judged, step_lent, chain_into};
 ghost use Rattle.machine.specs.Loops.{Ready, obeyed};
 
 use machine_action::Action;
 use machine_answer::Answer;
-use machine_apdu::{Apdu, Frame, Header, status};
+use machine_apdu::status::StatusWord;
+use machine_apdu::{Frame, Header, status};
 use machine_link::Course;
 use machine_record::search_record::search_body;
-use machine_session::{Place, Refusal, Session, Verdict};
+use machine_session::{Place, Refusal, Session};
 use objects_templates::Search;
 use store_files::{File, Transparent};
 use store_kinds::rules::Rule;
 
 // What a command comes to before its data are looked at: a refusal; a status word; a link that joins the chain; or a command that is obeyed, with
-// what the chain has before its data.
+// what the chain has before its data. (No Result, since a refusal has no status word, and a status word is no refusal.)
 #[derive(Clone, Copy)]
 pub enum Judgement {
     Denied(Refusal),
-    Stopped(usize),
+    Stopped(StatusWord),
     Linked(Frame),
     Obeyed(Frame),
 }
 
 // Opens a session with the rights of three certificates.
+#[tactic(auto, unfolding(crate::specs::Step::opening))]
 pub fn open(certificates: &[u8]) -> Answer
     ensures { result ≡ opening certificates.now }
 {
@@ -56,7 +58,7 @@ fn refused(refusal: Refusal, s: Session) -> Answer
     ensures { result ≡ refused_as refusal s }
 {
     Answer {
-        verdict: Verdict::Refused(refusal),
+        verdict: Err(refusal),
         length: 0,
         status: 0,
         session: s,
@@ -73,17 +75,16 @@ fn search(
     data: &[u8],
     response: &mut [u8],
 ) -> Answer
-    requires { (well_formed image.now ≡ true) × (2050 ≤ length response.old) × Allowed image.now «data».now (SearchRecord r q ne) }
+    requires { (well_formed image.now ≡ true) × (2050 ≤ length response.old) × Allowed image.now «data».now (Ok (SearchRecord r q ne)) }
     ensures { outcome result image.now response.new ≡ searched image.now s «data».now response.old r q ne }
 {
     let found = search_body(store_image::body(image, r.kind), data, q, ne);
     if found.status != status::NORMAL {
         return machine_answer::status_only(s, found.status, response);
     }
-    let p = q.file;
-    let hits = found.hits;
-    let first = machine_reply_search::first(hits);
-    let n = machine_reply_search::put_found(response, base::part(data, p.at, p.len), hits);
+    let file = base::part(data, q.file.at, q.file.len);
+    let n = machine_reply_search::put_found(response, file, found.hits);
+    let first = machine_reply_search::first(found.hits);
     machine_answer::status_behind(
         machine_answer::placed(s, Place::OnRecord(r.id, first)),
         status::NORMAL,
@@ -94,8 +95,8 @@ fn search(
 
 // READ RECORD.
 fn read_record(image: &[u8], s: Session, r: Rule, a: usize, b: usize, response: &mut [u8]) -> Answer
-    requires { (well_formed image.now ≡ true) × (2050 ≤ length response.old) × Allowed image.now [] (ReadRecord r a b) }
-    ensures { outcome result image.now response.new ≡ done (ReadRecord r a b) image.now s [] response.old }
+    requires { (well_formed image.now ≡ true) × (2050 ≤ length response.old) × Allowed image.now [] (Ok (ReadRecord r a b)) }
+    ensures { outcome result image.now response.new ≡ done (Ok (ReadRecord r a b)) image.now s [] response.old }
 {
     let n = machine_reply_record::put_records(store_image::body(image, r.kind), a, b, response);
     machine_answer::status_behind(
@@ -109,7 +110,7 @@ fn read_record(image: &[u8], s: Session, r: Rule, a: usize, b: usize, response: 
 // FMM.
 fn report(image: &[u8], s: Session, f: File, p2: usize, response: &mut [u8]) -> Answer
     requires { 2050 ≤ length response.old }
-    ensures { outcome result image.now response.new ≡ done (Report f p2) image.now s [] response.old }
+    ensures { outcome result image.now response.new ≡ done (Ok (Report f p2)) image.now s [] response.old }
 {
     let t = machine_reply_fmm::total(image, f);
     let r = machine_reply_fmm::remaining(image, f);
@@ -133,7 +134,7 @@ fn read_binary(
     response: &mut [u8],
 ) -> Answer
     requires { (2050 ≤ length response.old) × (n ≤ 2048) × (o + n ≤ length (file_bytes image.now t)) }
-    ensures { outcome result image.now response.new ≡ done (ReadBinary t o n) image.now s [] response.old }
+    ensures { outcome result image.now response.new ≡ done (Ok (ReadBinary t o n)) image.now s [] response.old }
 {
     store_files::put_bytes(image, t, o, n, response, 0);
     machine_answer::status_behind(
@@ -153,8 +154,8 @@ fn read_binary_odd(
     n: usize,
     response: &mut [u8],
 ) -> Answer
-    requires { (2050 ≤ length response.old) × Allowed image.now [] (ReadBinaryOdd t o n) }
-    ensures { outcome result image.now response.new ≡ done (ReadBinaryOdd t o n) image.now s [] response.old }
+    requires { (2050 ≤ length response.old) × Allowed image.now [] (Ok (ReadBinaryOdd t o n)) }
+    ensures { outcome result image.now response.new ≡ done (Ok (ReadBinaryOdd t o n)) image.now s [] response.old }
 {
     let at = objects_writer::put_head(response, 0, 0x53, n);
     store_files::put_bytes(image, t, o, n, response, at);
@@ -167,12 +168,12 @@ fn read_binary_odd(
 }
 
 // Does what a command comes to.
+#[tactic(auto, unfolding(crate::specs::Effects::done, machine_answer::specs::Outcome::says))]
 fn apply(image: &mut [u8], s: Session, d: Action, data: &[u8], response: &mut [u8]) -> Answer
-    requires { (well_formed image.old ≡ true) × (2050 ≤ length response.old) × Allowed image.old «data».now d }
-    ensures { outcome result image.new response.new ≡ done d image.old s «data».now response.old }
+    requires { (well_formed image.old ≡ true) × (2050 ≤ length response.old) × Allowed image.old «data».now (Ok d) }
+    ensures { outcome result image.new response.new ≡ done (Ok d) image.old s «data».now response.old }
 {
     match d {
-        Action::Status(w) => machine_answer::status_only(s, w, response),
         Action::SelectApplication(a) => machine_answer::status_only(
             machine_answer::entered(s, a),
             status::NORMAL,
@@ -194,14 +195,42 @@ fn apply(image: &mut [u8], s: Session, d: Action, data: &[u8], response: &mut [u
     }
 }
 
+// Answers the status word that stops a command, or does what it comes to.
+#[tactic(auto, unfolding(crate::specs::Effects::done, machine_answer::specs::Outcome::says))]
+fn answer(
+    image: &mut [u8],
+    s: Session,
+    d: Result<Action, StatusWord>,
+    data: &[u8],
+    response: &mut [u8],
+) -> Answer
+    requires { (well_formed image.old ≡ true) × (2050 ≤ length response.old) × Allowed image.old «data».now d }
+    ensures { outcome result image.new response.new ≡ done d image.old s «data».now response.old }
+{
+    match d {
+        Ok(action) => apply(image, s, action, data, response),
+        Err(w) => machine_answer::status_only(s, w, response),
+    }
+}
+
 // Whether a session fits an image, and its chain does.
+#[tactic(auto, unfolding(base::specs::Choice::all_of))]
 fn fits(image: &[u8], s: Session, chain: &[u8]) -> bool
     ensures { result ≡ all_of (session_fits image.now s ∷ lent_fits chain.now ∷ []) }
 {
-    if !machine_session::session_fits(image, s) {
-        return false;
+    machine_session::session_fits(image, s) && machine_link::fits(chain)
+}
+
+// The judgement of a command with a frame, by what the chain makes of it.
+#[tactic(auto, unfolding(crate::specs::Lent::judged_course))]
+fn judged_course(course: Result<Course, StatusWord>, f: Frame) -> Judgement
+    ensures { result ≡ judged_course course f }
+{
+    match course {
+        Err(w) => Judgement::Stopped(w),
+        Ok(Course::Extends) => Judgement::Linked(f),
+        Ok(Course::Goes) => Judgement::Obeyed(f),
     }
-    machine_link::fits(chain)
 }
 
 // Steps 1 to 3 and what the chain asks of an accepted command.
@@ -209,28 +238,24 @@ fn shaped(chain: &[u8], command: &[u8]) -> Judgement
     ensures { result ≡ judged_shape (chain_in chain.now) (shape_of command.now) }
 {
     match machine_apdu::shape(command) {
-        Apdu::Bad => Judgement::Stopped(status::WRONG_LENGTH),
-        Apdu::Good(f) => match machine_link::turn(chain, f) {
-            Course::Stops(w) => Judgement::Stopped(w),
-            Course::Extends => Judgement::Linked(f),
-            Course::Goes => Judgement::Obeyed(f),
-        },
+        None => Judgement::Stopped(status::WRONG_LENGTH),
+        Some(f) => judged_course(machine_link::turn(chain, f), f),
     }
 }
 
 // Judges a command whose response buffer has n bytes. It touches nothing.
+#[tactic(auto, unfolding(crate::specs::Lent::judged))]
 pub fn judged(image: &[u8], s: Session, chain: &[u8], command: &[u8], n: usize) -> Judgement
     ensures { result ≡ judged image.now s chain.now command.now n }
 {
-    let both = fits(image, s, chain);
-    match machine_session::judge(image, both, n) {
-        Verdict::Accepted => shaped(chain, command),
-        Verdict::Refused(r) => Judgement::Denied(r),
+    match machine_session::judge(image, fits(image, s, chain), n) {
+        Ok(()) => shaped(chain, command),
+        Err(r) => Judgement::Denied(r),
     }
 }
 
 // A status word that ends a chain, where there is one, and changes nothing else.
-fn stop(s: Session, w: usize, chain: &mut [u8], response: &mut [u8]) -> Answer
+fn stop(s: Session, w: StatusWord, chain: &mut [u8], response: &mut [u8]) -> Answer
     requires { is_chain chain.old ≡ true }
     ensures { (result ≡ answered 0 w s) × (response.new ≡ put response.old 0 (word w)) × (chain.new ≡ put chain.old 0 no_chain_bytes) }
 {
@@ -258,18 +283,14 @@ fn obey(
     requires { Ready image.old chain.old f own.now (length response.old) }
     ensures { (outcome result image.new response.new ≡ obeyed image.old s (chain_in chain.old) f own.now response.old) × (chain.new ≡ put chain.old 0 no_chain_bytes) }
 {
-    let h = f.header;
-    machine_chain::join(chain, h, own);
+    machine_chain::join(chain, f.header, own);
     let data = machine_chain::joined(chain, own);
     let whole = Frame {
-        header: h,
-        from: f.from,
         lc: data.len(),
-        le: f.le,
-        ne: f.ne,
+        ..f
     };
     let d = machine_dispatch::by_class(image, s, whole, data);
-    let a = apply(image, s, d, data, response);
+    let a = answer(image, s, d, data, response);
     machine_chain::end(chain);
     a
 }

@@ -1,5 +1,5 @@
 -- Tests of step 5 that several commands share, and how a command goes on with the file that steps 7 to 9 answer.
-use Rattle.std.specs.Prelude.{ℕ, ◌+◌, ◌*◌, ◌%◌, Bool, List, [], ◌∷◌, get_or, leb, eqb}
+use Rattle.std.specs.Prelude.{ℕ, ◌+◌, ◌*◌, ◌%◌, Bool, List, [], ◌∷◌, get_or, leb, eqb, Result, Ok, Err}
 use Rattle.base.specs.Choice.{if_else, all_of}
 use Rattle.machine_apdu.specs.declared.Frame.{Frame}
 use Rattle.store_kinds.specs.declared.rules.Rule.{Rule}
@@ -7,16 +7,7 @@ use Rattle.store_files.specs.declared.Transparent.{Transparent}
 use Rattle.store_files.specs.declared.File.{File}
 use Rattle.machine_session.specs.declared.Named.{Named}
 use Rattle.machine_session.specs.declared.Named.TheVariants.{Current, Short, Id}
-use Rattle.machine_session.specs.declared.ResolvedRecord.{ResolvedRecord}
-use Rattle.machine_session.specs.declared.ResolvedRecord.TheVariants.{RecordStop, RecordAt}
-use Rattle.machine_session.specs.declared.ResolvedTransparent.{ResolvedTransparent}
-use Rattle.machine_session.specs.declared.ResolvedTransparent.TheVariants.{TransparentStop, TransparentAt}
-use Rattle.machine_session.specs.declared.ResolvedBiometrics.{ResolvedBiometrics}
-use Rattle.machine_session.specs.declared.ResolvedBiometrics.TheVariants.{BiometricsStop, BiometricsAt}
-use Rattle.machine_session.specs.declared.ResolvedFile.{ResolvedFile}
-use Rattle.machine_session.specs.declared.ResolvedFile.TheVariants.{FileStop, FileAt}
 use Rattle.machine_action.specs.declared.Action.{Action}
-use Rattle.machine_action.specs.declared.Action.TheVariants.{Status}
 
 -- Lc, no Le [O5]
 unfoldable pub lc_only : Frame → Bool
@@ -59,21 +50,21 @@ abbrev pub id_in : List ℕ → ℕ
 id_in v = be16 (get_or v 0 0) (get_or v 1 0)
 
 -- steps 7 to 9 stop with a status word, or the command goes on with the file [O7] [O8] [O9] [O11]
-abbrev pub on_record : ResolvedRecord → (Rule → Action) → Action
-on_record (RecordStop w) go = Status w
-on_record (RecordAt r) go = go r
+abbrev pub on_record : Result Rule ℕ → (Rule → Result Action ℕ) → Result Action ℕ
+on_record (Err w) go = Err w
+on_record (Ok r) go = go r
 
 -- [O7] [O8] [O9] [O11]
-abbrev pub on_transparent : ResolvedTransparent → (Transparent → Action) → Action
-on_transparent (TransparentStop w) go = Status w
-on_transparent (TransparentAt t) go = go t
+abbrev pub on_transparent : Result Transparent ℕ → (Transparent → Result Action ℕ) → Result Action ℕ
+on_transparent (Err w) go = Err w
+on_transparent (Ok t) go = go t
 
 -- [O7] [O8] [O9] [O11]
-abbrev pub on_biometrics : ResolvedBiometrics → (ℕ → Action) → Action
-on_biometrics (BiometricsStop w) go = Status w
-on_biometrics (BiometricsAt n) go = go n
+abbrev pub on_biometrics : Result ℕ ℕ → (ℕ → Result Action ℕ) → Result Action ℕ
+on_biometrics (Err w) go = Err w
+on_biometrics (Ok n) go = go n
 
 -- [O7] [O9] [O11]
-abbrev pub on_file : ResolvedFile → (File → Action) → Action
-on_file (FileStop w) go = Status w
-on_file (FileAt f) go = go f
+abbrev pub on_file : Result File ℕ → (File → Result Action ℕ) → Result Action ℕ
+on_file (Err w) go = Err w
+on_file (Ok f) go = go f

@@ -1,4 +1,4 @@
-// What a command comes to: a status word, or an action that answers 9000. Nothing is written here.
+// What a command comes to: a status word that stops it, or an action that answers 9000. Nothing is written here.
 #![tactic(auto)]
 
 pub mod tests;
@@ -7,10 +7,9 @@ use objects_templates::{Search, Writes};
 use store_files::{File, Transparent};
 use store_kinds::rules::Rule;
 
-// A status word alone, or what the command does. (SearchRecord answers 9000 where a record matches and the reply fits.)
+// What a command does where no status word stops it. (SearchRecord answers 9000 where a record matches and the reply fits.)
 #[derive(Clone, Copy)]
 pub enum Action {
-    Status(usize),
     // an application, or the master file
     SelectApplication(usize),
     SelectFile(File),

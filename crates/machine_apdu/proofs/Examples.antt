@@ -3,13 +3,13 @@ use Prim.Native.Nat.{ℕ}
 use mathlib.Core.Path.{◌≡◌, refl}
 use mathlib.Core.List.{[], ◌∷◌, ◌++◌}
 use lib.ListN.{replicate}
-use Rattle.machine_apdu.specs.declared.Apdu.{Apdu}
-use Rattle.machine_apdu.specs.declared.Apdu.TheVariants.{Bad, Good}
 use Rattle.machine_apdu.specs.Shape.{be16_at, or_most, header_of, framed, first_shape, shapes, shape_of}
+use Rattle.std.specs.Prelude.{Option, Some, None}
+use Rattle.machine_apdu.specs.declared.Frame.{Frame}
 
-good : ℕ → ℕ → ℕ → ℕ → ℕ → ℕ → ℕ → ℕ → Apdu
+good : ℕ → ℕ → ℕ → ℕ → ℕ → ℕ → ℕ → ℕ → Option Frame
 good cla ins p1 p2 from lc le ne =
-    Good (record { header = record { cla = cla; ins = ins; p1 = p1; p2 = p2 }; from = from; lc = lc; le = le; ne = ne })
+    Some (record { header = record { cla = cla; ins = ins; p1 = p1; p2 = p2 }; from = from; lc = lc; le = le; ne = ne })
 
 -- ACTIVATE: case 1
 activate : shape_of (0x00 ∷ 0x44 ∷ 0x00 ∷ 0x00 ∷ []) ≡ good 0 0x44 0 0 4 0 0 0
@@ -36,6 +36,6 @@ full : shape_of ((0x00 ∷ 0xE2 ∷ 0x00 ∷ 0x08 ∷ 0x00 ∷ 0x04 ∷ 0x00 ∷
 unfolding good be16_at or_most header_of framed first_shape shapes shape_of
 full = refl
 
-over : shape_of ((0x00 ∷ 0xE2 ∷ 0x00 ∷ 0x08 ∷ 0x00 ∷ 0x04 ∷ 0x01 ∷ []) ++ replicate 1025 0) ≡ Bad
+over : shape_of ((0x00 ∷ 0xE2 ∷ 0x00 ∷ 0x08 ∷ 0x00 ∷ 0x04 ∷ 0x01 ∷ []) ++ replicate 1025 0) ≡ None
 unfolding be16_at or_most header_of framed first_shape shapes shape_of
 over = refl

@@ -13,10 +13,9 @@ use borrow.Author.Tests.{leb-true, ltb-true, eqb-true}
 use Rattle.base.specs.Bytes.{AllBytes}
 use Rattle.base.proofs.Cases.{by_cases, if_else_ind, and_left, and_right}
 use Rattle.machine_apdu.specs.declared.Frame.{Frame}
-use Rattle.machine_apdu.specs.declared.Apdu.{Apdu}
-use Rattle.machine_apdu.specs.declared.Apdu.TheVariants.{Bad, Good}
 use Rattle.machine_apdu.specs.Shape.{be16_at, or_most, header_of, framed, first_shape, shapes, up_to, shape_of}
 use Rattle.machine_apdu.proofs.Rows.{shape_case1, shape_case2_short, shape_case3_short, shape_case4_short, shape_case2_extended, shape_case3_extended, shape_case4_extended}
+use Rattle.std.specs.Prelude.{Option, Some, None}
 
 pub record Facts (c : List ℕ) (f : Frame) : Type 0 where
   pub head : f.header ≡ header_of c
@@ -27,25 +26,25 @@ pub record Facts (c : List ℕ) (f : Frame) : Type 0 where
   pub most : AllBytes c → f.ne ≤ 65536
 
 -- an answer whose frame, if there is one, has these facts
-abbrev pub WellFormed : List ℕ → Apdu → Type 0
-WellFormed c Bad = Unit {0}
-WellFormed c (Good f) = Facts c f
+abbrev pub WellFormed : List ℕ → Option Frame → Type 0
+WellFormed c None = Unit {0}
+WellFormed c (Some f) = Facts c f
 
 -- one that is, if its data is not too long
-abbrev Cuttable : List ℕ → Apdu → Type 0
-Cuttable c Bad = Unit {0}
-Cuttable c (Good f) = f.lc ≤ 1024 → Facts c f
+abbrev Cuttable : List ℕ → Option Frame → Type 0
+Cuttable c None = Unit {0}
+Cuttable c (Some f) = f.lc ≤ 1024 → Facts c f
 
-cut : (c : List ℕ) (a : Apdu) → Cuttable c a → WellFormed c (up_to 1024 a)
-cut c Bad p = tt
-cut c (Good f) p = if_else_ind (WellFormed c) (leb f.lc 1024) (λ e. p (leb-true f.lc 1024 e)) (λ _. tt)
+cut : (c : List ℕ) (a : Option Frame) → Cuttable c a → WellFormed c (up_to 1024 a)
+cut c None p = tt
+cut c (Some f) p = if_else_ind (WellFormed c) (leb f.lc 1024) (λ e. p (leb-true f.lc 1024 e)) (λ _. tt)
 
 -- each row of a table of shapes, where its test holds
-abbrev Rows : List ℕ → List (Bool × Apdu) → Type 0
+abbrev Rows : List ℕ → List (Bool × Option Frame) → Type 0
 Rows c [] = Unit {0}
 Rows c (row ∷ rows) = (row.0 ≡ true → Cuttable c row.1) × Rows c rows
 
-first : (c : List ℕ) (rows : List (Bool × Apdu)) → Rows c rows → Cuttable c (first_shape rows)
+first : (c : List ℕ) (rows : List (Bool × Option Frame)) → Rows c rows → Cuttable c (first_shape rows)
 unfolding first_shape
 first c [] p = tt
 first c (row ∷ rows) p = if_else_ind (Cuttable c) row.0 p.0 (λ _. first c rows p.1)
@@ -104,34 +103,34 @@ module _ (c : List ℕ) where
       cut c (first_shape table) (first c table (rows (get_or c 4 0) (be16_at c 5) (λ h. omega (arith, h 4)) (pair_small c 5)))
 
   -- of an answer that a caller has taken apart
-  pub shape_facts : (a : Apdu) (f : Frame) → a ≡ shape_of c → a ≡ Good f → Facts c f
+  pub shape_facts : (a : Option Frame) (f : Frame) → a ≡ shape_of c → a ≡ Some f → Facts c f
   shape_facts a f e g = subst (WellFormed c) (sym e ∙ g) shape-well_formed
 
 -- ---- what is accepted is a row of the table
 
 -- the frame of a row whose test holds
-abbrev pub SomeRow : Frame → List (Bool × Apdu) → Type 0
+abbrev pub SomeRow : Frame → List (Bool × Option Frame) → Type 0
 SomeRow f [] = ⊥
-SomeRow f (row ∷ rows) = ((row.0 ≡ true) × (row.1 ≡ Good f)) ⊎ SomeRow f rows
+SomeRow f (row ∷ rows) = ((row.0 ≡ true) × (row.1 ≡ Some f)) ⊎ SomeRow f rows
 
-bad_good : {A : Type 0} {f : Frame} → Bad ≡ Good f → A
+bad_good : {A : Type 0} {f : Frame} → None ≡ Some f → A
 bad_good {A} {f} e = let z : ◌≡◌ {A = ℕ} 0 1 = cc in absurd (omega arith)
 
-some_row : (f : Frame) (rows : List (Bool × Apdu)) → first_shape rows ≡ Good f → SomeRow f rows
+some_row : (f : Frame) (rows : List (Bool × Option Frame)) → first_shape rows ≡ Some f → SomeRow f rows
 unfolding first_shape
 some_row f [] e = bad_good e
 some_row f (row ∷ rows) e = by_cases row.0 (λ t. inl (t, simp t at e)) (λ t. inr (some_row f rows (simp t at e)))
 
-short : (f : Frame) (a : Apdu) → up_to 1024 a ≡ Good f → (a ≡ Good f) × (f.lc ≤ 1024)
-short f Bad e = bad_good e
-short f (Good g) e =
+short : (f : Frame) (a : Option Frame) → up_to 1024 a ≡ Some f → (a ≡ Some f) × (f.lc ≤ 1024)
+short f None e = bad_good e
+short f (Some g) e =
     by_cases (leb g.lc 1024)
-    (λ t. let q : Good g ≡ Good f = simp t at e in
+    (λ t. let q : Some g ≡ Some f = simp t at e in
     let s : g ≡ f = cc in
     (q, subst (λ (x : Frame). x.lc ≤ 1024) s (leb-true g.lc 1024 t)))
     (λ t. bad_good (simp t at e))
 
-pub shape_sound : (c : List ℕ) (f : Frame) → shape_of c ≡ Good f → SomeRow f (shapes c (length c) (get_or c 4 0) (be16_at c 5)) × (f.lc ≤ 1024)
+pub shape_sound : (c : List ℕ) (f : Frame) → shape_of c ≡ Some f → SomeRow f (shapes c (length c) (get_or c 4 0) (be16_at c 5)) × (f.lc ≤ 1024)
 unfolding shape_of
 shape_sound c f e =
     let table = shapes c (length c) (get_or c 4 0) (be16_at c 5) in
@@ -141,12 +140,12 @@ shape_sound c f e =
 -- ---- each shape is accepted
 
 -- the shape is the one that a row gives, if its data is not too long
-abbrev pub Accepted : List ℕ → Apdu → Type 0
-Accepted c Bad = Unit {0}
-Accepted c (Good f) = f.lc ≤ 1024 → shape_of c ≡ Good f
+abbrev pub Accepted : List ℕ → Option Frame → Type 0
+Accepted c None = Unit {0}
+Accepted c (Some f) = f.lc ≤ 1024 → shape_of c ≡ Some f
 
 -- each row of a table of shapes, where its test holds
-abbrev pub EachRow : List ℕ → List (Bool × Apdu) → Type 0
+abbrev pub EachRow : List ℕ → List (Bool × Option Frame) → Type 0
 EachRow c [] = Unit {0}
 EachRow c (row ∷ rows) = (row.0 ≡ true → Accepted c row.1) × EachRow c rows
 

@@ -2,11 +2,10 @@
 -- has none of them is `Bad`, which is 6700.
 --
 -- `le` says how many bytes say Le: 0 there is none, 1 it is short, 2 it is extended. Ne is 0 without Le.
-use Rattle.std.specs.Prelude.{ℕ, ◌+◌, ◌*◌, Bool, ◌&&◌, List, [], ◌∷◌, length, get_or, ltb, leb, eqb}
+use Rattle.std.specs.Prelude.{ℕ, ◌+◌, ◌*◌, Bool, ◌&&◌, List, [], ◌∷◌, length, get_or, ltb, leb, eqb, Option, Some, None}
 use Rattle.base.specs.Choice.{if_else}
 use Rattle.machine_apdu.specs.declared.Header.{Header}
-use Rattle.machine_apdu.specs.declared.Apdu.{Apdu}
-use Rattle.machine_apdu.specs.declared.Apdu.TheVariants.{Bad, Good}
+use Rattle.machine_apdu.specs.declared.Frame.{Frame}
 
 -- the two bytes at i, the first the higher [V7]
 unfoldable pub be16_at : List ℕ → ℕ → ℕ
@@ -21,17 +20,17 @@ unfoldable pub header_of : List ℕ → Header
 header_of c = record { cla = get_or c 0 0; ins = get_or c 1 0; p1 = get_or c 2 0; p2 = get_or c 3 0 }
 
 -- a command whose data is the lc bytes from `from` on, with an Le of le bytes that asks for ne [H2] [H4]
-unfoldable pub framed : List ℕ → ℕ → ℕ → ℕ → ℕ → Apdu
-framed c from lc le ne = Good (record { header = header_of c; from = from; lc = lc; le = le; ne = ne })
+unfoldable pub framed : List ℕ → ℕ → ℕ → ℕ → ℕ → Option Frame
+framed c from lc le ne = Some (record { header = header_of c; from = from; lc = lc; le = le; ne = ne })
 
 -- the frame of the first row whose test holds [H2]
-unfoldable pub first_shape : List (Bool × Apdu) → Apdu
-first_shape [] = Bad
+unfoldable pub first_shape : List (Bool × Option Frame) → Option Frame
+first_shape [] = None
 first_shape (row ∷ rows) = if_else row.0 row.1 (first_shape rows)
 
 -- the seven shapes of a command of n bytes, b the byte behind its header and w the two behind that; a short Lc is 1 to 255 and an
 -- extended Lc 1 to 65,535 [H2] [H3]
-unfoldable pub shapes : List ℕ → ℕ → ℕ → ℕ → List (Bool × Apdu)
+unfoldable pub shapes : List ℕ → ℕ → ℕ → ℕ → List (Bool × Option Frame)
 shapes c n b w =
     -- case 1: the header
     (eqb n 4, framed c 4 0 0 0)
@@ -50,10 +49,10 @@ shapes c n b w =
     ∷ []
 
 -- data of more than `most` bytes is refused [H5]
-abbrev pub up_to : ℕ → Apdu → Apdu
-up_to most Bad = Bad
-up_to most (Good f) = if_else (leb f.lc most) (Good f) Bad
+abbrev pub up_to : ℕ → Option Frame → Option Frame
+up_to most None = None
+up_to most (Some f) = if_else (leb f.lc most) (Some f) None
 
 -- the shape of a command, whose data has at most 1,024 bytes [H2] [H5]
-unfoldable pub shape_of : List ℕ → Apdu
+unfoldable pub shape_of : List ℕ → Option Frame
 shape_of c = up_to 1024 (first_shape (shapes c (length c) (get_or c 4 0) (be16_at c 5)))

@@ -25,13 +25,8 @@ pub struct Frame {
     pub ne: usize,
 }
 
-#[derive(Clone, Copy)]
-pub enum Apdu {
-    Bad,
-    Good(Frame),
-}
-
 // The two bytes at i, the first the higher.
+#[tactic(auto, unfolding(crate::specs::Shape::be16_at))]
 fn be16_at(command: &[u8], i: usize) -> usize
     requires { i < length command.now }
     ensures { (result ≡ be16_at command.now i) × (result < 65536) }
@@ -40,17 +35,16 @@ fn be16_at(command: &[u8], i: usize) -> usize
 }
 
 // A number in which 0 stands for the most.
+#[tactic(auto, unfolding(crate::specs::Shape::or_most))]
 fn or_most(n: usize, most: usize) -> usize
     ensures { result ≡ or_most n most }
 {
-    if n == 0 {
-        return most;
-    }
-    n
+    if n == 0 { most } else { n }
 }
 
 // The frame of a command by what stands behind its header.
-fn framed(command: &[u8], from: usize, lc: usize, le: usize, ne: usize) -> Apdu
+#[tactic(auto, unfolding(crate::specs::Shape::framed, crate::specs::Shape::header_of))]
+fn framed(command: &[u8], from: usize, lc: usize, le: usize, ne: usize) -> Option<Frame>
     ensures { result ≡ framed command.now from lc le ne }
 {
     let header = Header {
@@ -59,7 +53,7 @@ fn framed(command: &[u8], from: usize, lc: usize, le: usize, ne: usize) -> Apdu
         p1: base::byte(command, 2),
         p2: base::byte(command, 3),
     };
-    Apdu::Good(Frame {
+    Some(Frame {
         header,
         from,
         lc,
@@ -69,7 +63,7 @@ fn framed(command: &[u8], from: usize, lc: usize, le: usize, ne: usize) -> Apdu
 }
 
 // The shapes with a short Lc, which is b.
-fn short_shape(command: &[u8], b: usize) -> Apdu
+fn short_shape(command: &[u8], b: usize) -> Option<Frame>
     requires { (b ≡ get_or command.now 4 0) × (0 < b) × (b < 256) × (5 < length command.now) }
     ensures { result ≡ shape_of command.now }
 {
@@ -78,41 +72,36 @@ fn short_shape(command: &[u8], b: usize) -> Apdu
         return framed(command, 5, b, 0, 0);
     }
     if n == 6 + b {
-        let le = base::byte(command, 5 + b);
-        return framed(command, 5, b, 1, or_most(le, 256));
+        return framed(command, 5, b, 1, or_most(base::byte(command, 5 + b), 256));
     }
-    Apdu::Bad
+    None
 }
 
 // The shapes with an extended Lc, which is w.
-fn extended_shape(command: &[u8], w: usize) -> Apdu
+fn extended_shape(command: &[u8], w: usize) -> Option<Frame>
     requires { (get_or command.now 4 0 ≡ 0) × (w ≡ be16_at command.now 5) × (w < 65536) × (7 < length command.now) }
     ensures { result ≡ shape_of command.now }
 {
     let n = command.len();
-    if w == 0 {
-        return Apdu::Bad;
-    }
-    if 1024 < w {
-        return Apdu::Bad;
+    if w == 0 || 1024 < w {
+        return None;
     }
     if n == 7 + w {
         return framed(command, 7, w, 0, 0);
     }
     if n == 9 + w {
-        let le = be16_at(command, 7 + w);
-        return framed(command, 7, w, 2, or_most(le, 65536));
+        return framed(command, 7, w, 2, or_most(be16_at(command, 7 + w), 65536));
     }
-    Apdu::Bad
+    None
 }
 
 // Which shape a command has, with at most 1,024 bytes of data.
-pub fn shape(command: &[u8]) -> Apdu
+pub fn shape(command: &[u8]) -> Option<Frame>
     ensures { result ≡ shape_of command.now }
 {
     let n = command.len();
     if n < 4 {
-        return Apdu::Bad;
+        return None;
     }
     if n == 4 {
         return framed(command, 4, 0, 0, 0);
@@ -125,7 +114,7 @@ pub fn shape(command: &[u8]) -> Apdu
         return short_shape(command, b);
     }
     if n < 7 {
-        return Apdu::Bad;
+        return None;
     }
     let w = be16_at(command, 5);
     if n == 7 {

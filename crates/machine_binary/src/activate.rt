@@ -3,25 +3,21 @@ ghost use Rattle.std.specs.Prelude.{◌≡◌};
 ghost use Rattle.machine_binary.specs.Activate.{activate_file};
 
 use machine_action::{Action, tests};
+use machine_apdu::status::StatusWord;
 use machine_apdu::{Frame, status};
 use machine_session::resolve::resolve_biometrics;
-use machine_session::{Named, ResolvedBiometrics, Session};
+use machine_session::{Named, Session};
 
-pub fn activate_file(image: &[u8], s: Session, f: Frame) -> Action
+#[tactic(auto, unfolding(crate::specs::Activate::activate_file, base::specs::Choice::all_of, machine_session::specs::Order::in_order))]
+pub fn activate_file(image: &[u8], s: Session, f: Frame) -> Result<Action, StatusWord>
     ensures { result ≡ activate_file image.now s f }
 {
-    let h = f.header;
-    if h.p1 != 0 {
-        return Action::Status(status::WRONG_PARAMETERS);
-    }
-    if h.p2 != 0 {
-        return Action::Status(status::WRONG_PARAMETERS);
+    if f.header.p1 != 0 || f.header.p2 != 0 {
+        return Err(status::WRONG_PARAMETERS);
     }
     if !tests::neither(f) {
-        return Action::Status(status::WRONG_LENGTH);
+        return Err(status::WRONG_LENGTH);
     }
-    match resolve_biometrics(image, s, Named::Current) {
-        ResolvedBiometrics::BiometricsStop(w) => Action::Status(w),
-        ResolvedBiometrics::BiometricsAt(n) => Action::Activate(n),
-    }
+    let n = resolve_biometrics(image, s, Named::Current)?;
+    Ok(Action::Activate(n))
 }

@@ -1,14 +1,13 @@
--- What the bytes of a chain say. Read specs/Layout.antt before. Exports `amid_is`, `so_far_is`, `goes_on_none`, `goes_on_links` (what the code
--- answers is the definition's), `amid_taken`, `amid_left` (a choice by whether there is a
--- chain), `extend-is`, `short-chain`, `full_chain`, `none-chain`, `some_chain`.
-use Prim.Native.Nat.{ℕ, ◌+◌, ◌-◌, ◌/◌, ◌%◌, ◌≤◌, ◌<◌}
+-- What the bytes of a chain say. Read specs/Layout.antt before. Exports `amid_is`, `so_far_is`, `goes_on_links` (what the code
+-- answers is the definition's), `extend-is`, `none-chain`, `some_chain`.
+use Prim.Native.Nat.{ℕ, ◌+◌, ◌-◌, ◌/◌, ◌%◌, ◌≤◌}
 use mathlib.Core.Path.{◌≡◌, refl, sym, ap, ap₂, ◌∙◌}
 use mathlib.Core.Bool.{Bool, true, false, not, ◌&&◌}
 use mathlib.Core.List.{List, [], ◌∷◌}
 use lib.ListN.{length, get_or}
 use lib.Dec.{eqb}
-use borrow.Author.Tests.{eqb-true, eq-eqb, ne_eqb, le-leb, lt-leb}
-use Rattle.base.specs.Choice.{if_else, all_of}
+use borrow.Author.Tests.{eqb-true, eq-eqb, ne_eqb, le-leb}
+use Rattle.base.specs.Choice.{all_of}
 use Rattle.base.specs.Bytes.{part, put}
 use Rattle.base.proofs.Cases.{by_cases}
 use Rattle.store_records.specs.Little.{le16, bytes16}
@@ -29,38 +28,10 @@ module _ (xs : List ℕ) where
   unfolding chain_in
   so_far_is = by_cases (eqb (le16 xs 0) 0) (λ e. rw e (rw (eqb-true (le16 xs 0) 0 e) refl)) (λ e. rw e refl)
 
-  pub goes_on_none : (h : Header) → le16 xs 0 ≡ 0 → true ≡ goes_on (chain_in xs) h
-  unfolding chain_in
-  goes_on_none h e = rw e refl
-
   pub goes_on_links : (h : Header) → (le16 xs 0 ≡ 0 → ⊥)
       → goes_on (chain_in xs) h ≡ all_of (eqb (get_or xs 2 0) h.ins ∷ eqb (get_or xs 3 0) h.p1 ∷ eqb (get_or xs 4 0) h.p2 ∷ [])
   unfolding chain_in
   goes_on_links h e = rw (ne_eqb (le16 xs 0) 0 e) refl
-
-  -- the tests of the code, one after the other
-  module _ (h : Header) {n a b c : ℕ} (en : n ≡ le16 xs 0) (some : n ≡ 0 → ⊥) (ea : a ≡ get_or xs 2 0) (eb : b ≡ get_or xs 3 0) (ec : c ≡ get_or xs 4 0) where
-    links : goes_on (chain_in xs) h ≡ all_of (eqb a h.ins ∷ eqb b h.p1 ∷ eqb c h.p2 ∷ [])
-    links = goes_on_links h (λ z. some (en ∙ z)) ∙ simp (sym ea, sym eb, sym ec) refl
-
-    pub goes_on_first : (a ≡ h.ins → ⊥) → false ≡ goes_on (chain_in xs) h
-    unfolding all_of
-    goes_on_first x = sym (links ∙ simp (ne_eqb a h.ins x))
-
-    pub goes_on_second : a ≡ h.ins → (b ≡ h.p1 → ⊥) → false ≡ goes_on (chain_in xs) h
-    unfolding all_of
-    goes_on_second x y = sym (links ∙ simp (eq-eqb a h.ins x, ne_eqb b h.p1 y))
-
-    pub goes_on_third : a ≡ h.ins → b ≡ h.p1 → eqb c h.p2 ≡ goes_on (chain_in xs) h
-    unfolding all_of
-    goes_on_third x y = sym (links ∙ simp (eq-eqb a h.ins x, eq-eqb b h.p1 y) (and-true _))
-
-  module _ {b : Bool} (e : b ≡ is_amid (chain_in xs)) where
-    pub amid_taken : (ys zs : List ℕ) → b ≡ true → ys ≡ if_else (is_amid (chain_in xs)) ys zs
-    amid_taken ys zs t = rw (sym e ∙ t) refl
-
-    pub amid_left : (ys zs : List ℕ) → b ≡ false → zs ≡ if_else (is_amid (chain_in xs)) ys zs
-    amid_left ys zs t = rw (sym e ∙ t) refl
 
 -- what `extend` stores
 pub extend-is : (xs : List ℕ) (h : Header) (d : List ℕ) {n m : ℕ} {mid last : List ℕ} → n ≡ le16 xs 0 → m ≡ n + length d → mid ≡ put xs (5 + n) d
@@ -73,15 +44,7 @@ extend-is xs h d {n} {m} en em e f =
 -- ---- whether bytes are a chain: the tests of the code, one after the other
 
 module _ (xs : List ℕ) where
-  pub short-chain : length xs < 1029 → false ≡ is_chain xs
-  unfolding is_chain all_of
-  short-chain h = simp (lt-leb 1029 (length xs) h) refl
-
   module _ (long : 1029 ≤ length xs) {n : ℕ} (en : n ≡ le16 xs 0) where
-    pub full_chain : 1024 < n → false ≡ is_chain xs
-    unfolding is_chain all_of
-    full_chain h = simp (le-leb 1029 (length xs) long, sym en, lt-leb n 1024 h) refl
-
     module _ (few : n ≤ 1024) where
       chain_by : is_chain xs ≡ unused_zeros xs n
       unfolding is_chain all_of

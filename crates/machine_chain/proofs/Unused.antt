@@ -1,5 +1,5 @@
--- Bytes that are zero. Read specs/Layout.antt before. Exports `zeros_up`, `zeros-same` (a turn of the loop), `zeros-at`, `zeros_are`.
-use Prim.Native.Nat.{ℕ, zero, suc, ◌+◌, ◌≤◌, ◌<◌}
+-- Bytes that are zero. Read specs/Layout.antt before. Exports `zeros_more` (a turn of the loop), `zeros-at`, `zeros_are`.
+use Prim.Native.Nat.{ℕ, zero, suc, ◌+◌, ◌<◌}
 use mathlib.Core.Path.{◌≡◌, refl, sym, ap, ◌∙◌}
 use mathlib.Core.Bool.{Bool, true, false, ◌&&◌}
 use mathlib.Core.List.{List}
@@ -7,28 +7,23 @@ use native.Mathlib.Omega.{arith}
 use native.Mathlib.Numerals.{unary_clauses}
 use lib.ListN.{get_or}
 use lib.Dec.{eqb}
+use lib.Bits.{bit_or, or_zero_l}
+use Rattle.std.proofs.lemmas.Nat.{le_or_l}
 use borrow.Author.Tests.{eqb-true, eq-eqb, ne_eqb}
 use Rattle.base.proofs.Cases.{by_cases, and_left, and_right, false-true}
 use Rattle.machine_chain.specs.Layout.{zero_run}
 
--- the greatest is zero where both are
-up : (m b : ℕ) → m < b → eqb b 0 ≡ (eqb m 0 && eqb b 0)
-up m b h = let z = ne_eqb b 0 (λ e. absurd (omega arith)) in rw z (by_cases (eqb m 0) (λ t. rw t refl) (λ t. rw t refl))
+-- the bits of both are none where both are zero
+both_zero : (m b : ℕ) → eqb (bit_or m b) 0 ≡ (eqb m 0 && eqb b 0)
+both_zero zero b = rw (or_zero_l b) refl
+both_zero (suc m) b =
+    rw (ne_eqb (bit_or (suc m) b) 0 (λ e. absurd (omega (arith, le_or_l (suc m) b))), ne_eqb (suc m) 0 (λ e. absurd (omega arith))) refl
 
-same : (m b : ℕ) → b ≤ m → eqb m 0 ≡ (eqb m 0 && eqb b 0)
-same m b h =
-    by_cases (eqb m 0)
-    (λ t. rw t (sym (eq-eqb b 0 (omega (arith, eqb-true m 0 t)))))
-    (λ t. rw t refl)
-
-module _ (xs : List ℕ) (a i m : ℕ) (e : eqb m 0 ≡ zero_run xs a i) where
-  pub zeros_up : (last : ℕ) → m < get_or xs (a + i) 0 → last ≡ get_or xs (a + i) 0 → eqb last 0 ≡ zero_run xs a (i + 1)
-  unfolding zero_run
-  zeros_up last h l = simp unary_clauses (ap (λ (x : ℕ). eqb x 0) l ∙ up m (get_or xs (a + i) 0) h ∙ ap (λ (t : Bool). t && eqb (get_or xs (a + i) 0) 0) e)
-
-  pub zeros-same : (last : ℕ) → get_or xs (a + i) 0 ≤ m → last ≡ m → eqb last 0 ≡ zero_run xs a (i + 1)
-  unfolding zero_run
-  zeros-same last h l = simp unary_clauses (ap (λ (x : ℕ). eqb x 0) l ∙ same m (get_or xs (a + i) 0) h ∙ ap (λ (t : Bool). t && eqb (get_or xs (a + i) 0) 0) e)
+-- a turn of the loop
+pub zeros_more : (xs : List ℕ) (a i m : ℕ) → eqb m 0 ≡ zero_run xs a i
+    → eqb (bit_or m (get_or xs (a + i) 0)) 0 ≡ zero_run xs a (i + 1)
+unfolding zero_run
+zeros_more xs a i m e = simp unary_clauses (both_zero m (get_or xs (a + i) 0) ∙ ap (λ (t : Bool). t && eqb (get_or xs (a + i) 0) 0) e)
 
 -- each of them is zero, and where each is they are
 pub zeros-at : (xs : List ℕ) (a n : ℕ) → zero_run xs a n ≡ true → (i : ℕ) → i < n → get_or xs (a + i) 0 ≡ 0

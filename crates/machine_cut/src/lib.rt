@@ -13,69 +13,54 @@ ghost use Rattle.machine_cut.specs.Loops.{Cuts};
 use machine::Judgement;
 use machine_action::Action;
 use machine_apdu::Frame;
+use machine_apdu::status::StatusWord;
 use machine_binary::activate::activate_file;
 use machine_record::append_record::append_record;
-use machine_session::{Session, Verdict};
+use machine_session::{Refusal, Session};
 use store_cut::Writing;
 use store_kinds::rules;
 
-// What an action stores: to the file of which kind, and what.
-#[derive(Clone, Copy)]
-pub enum Storage {
-    To(usize, Writing),
-    Nothing,
-}
-
-// What a cut answers: whether it is accepted, and how many stores the whole command has.
+// What a cut answers: whether it is accepted, and how many stores the whole command has. (It is a struct and no Result, since `cut_outcome`, and with it
+// the theorems of promises on cuts, name its two fields.)
 #[derive(Clone, Copy)]
 pub struct CutAnswer {
-    pub verdict: Verdict,
+    pub verdict: Result<(), Refusal>,
     pub stores: usize,
 }
 
-fn storing(d: Action) -> Storage
+#[tactic(auto, unfolding(crate::specs::Cutting::storing))]
+fn storing(d: Result<Action, StatusWord>) -> Option<(usize, Writing)>
     ensures { result ≡ storing d }
 {
     match d {
-        Action::Status(_) => Storage::Nothing,
-        Action::SelectApplication(_) => Storage::Nothing,
-        Action::SelectFile(_) => Storage::Nothing,
-        Action::ReadBinary(_, _, _) => Storage::Nothing,
-        Action::UpdateBinary(_, _) => Storage::Nothing,
-        Action::Activate(n) => Storage::To(rules::biometrics_kind(n), Writing::State),
-        Action::AppendRecord(r) => Storage::To(r.kind, Writing::Record),
-        Action::ReadRecord(_, _, _) => Storage::Nothing,
-        Action::SearchRecord(_, _, _) => Storage::Nothing,
-        Action::Report(_, _) => Storage::Nothing,
-        Action::ReadBinaryOdd(_, _, _) => Storage::Nothing,
+        Ok(Action::Activate(n)) => Some((rules::biometrics_kind(n), Writing::State)),
+        Ok(Action::AppendRecord(r)) => Some((r.kind, Writing::Record)),
+        _ => None,
     }
 }
 
 // What the whole command stores. Only APPEND RECORD and ACTIVATE store, so no other command is decided here.
-fn stored(image: &[u8], s: Session, f: Frame, data: &[u8]) -> Storage
+fn stored(image: &[u8], s: Session, f: Frame, data: &[u8]) -> Option<(usize, Writing)>
     requires { length «data».now ≡ f.lc }
     ensures { result ≡ storing (by_class image.now s f «data».now) }
 {
-    let h = f.header;
-    if h.cla != 0x00 {
-        return Storage::Nothing;
+    if f.header.cla != 0x00 {
+        return None;
     }
-    if h.ins == 0xE2 {
-        return storing(append_record(image, s, f, data));
+    match f.header.ins {
+        0xE2 => storing(append_record(image, s, f, data)),
+        0x44 => storing(activate_file(image, s, f)),
+        _ => None,
     }
-    if h.ins == 0x44 {
-        return storing(activate_file(image, s, f));
-    }
-    Storage::Nothing
 }
 
 // Makes the first k stores. Answers how many there are in all.
-fn make(image: &mut [u8], t: Storage, data: &[u8], k: usize) -> usize
+fn make(image: &mut [u8], t: Option<(usize, Writing)>, data: &[u8], k: usize) -> usize
     ensures { Cuts k t image.old «data».now result image.new }
 {
     match t {
-        Storage::To(kind, w) => store_image::make_stores(image, kind, w, data, k),
-        Storage::Nothing => 0,
+        Some((kind, w)) => store_image::make_stores(image, kind, w, data, k),
+        None => 0,
     }
 }
 
@@ -84,17 +69,13 @@ fn obey(image: &mut [u8], s: Session, f: Frame, own: &[u8], chain: &[u8], k: usi
     requires { Ready image.old chain.now f own.now 2050 }
     ensures { Cuts k (storing (by_class image.old s (whole_frame (chain_in chain.now) f) (so_far (chain_in chain.now) ++ own.now))) image.old (so_far (chain_in chain.now) ++ own.now) result image.new }
 {
-    let h = f.header;
     let mut copy = [0u8; 1029];
     base::put(&mut copy, 0, base::part(chain, 0, 1029));
-    machine_chain::join(&mut copy, h, own);
+    machine_chain::join(&mut copy, f.header, own);
     let data = machine_chain::joined(&copy, own);
     let whole = Frame {
-        header: h,
-        from: f.from,
         lc: data.len(),
-        le: f.le,
-        ne: f.ne,
+        ..f
     };
     let t = stored(image, s, whole, data);
     make(image, t, data, k)
@@ -106,21 +87,17 @@ pub fn cut(image: &mut [u8], s: Session, chain: &[u8], command: &[u8], k: usize)
 {
     match machine::judged(image, s, chain, command, 2050) {
         Judgement::Denied(r) => CutAnswer {
-            verdict: Verdict::Refused(r),
+            verdict: Err(r),
             stores: 0,
         },
-        Judgement::Stopped(_) => CutAnswer {
-            verdict: Verdict::Accepted,
-            stores: 0,
-        },
-        Judgement::Linked(_) => CutAnswer {
-            verdict: Verdict::Accepted,
+        Judgement::Stopped(_) | Judgement::Linked(_) => CutAnswer {
+            verdict: Ok(()),
             stores: 0,
         },
         Judgement::Obeyed(f) => {
             let own = base::part(command, f.from, f.lc);
             CutAnswer {
-                verdict: Verdict::Accepted,
+                verdict: Ok(()),
                 stores: obey(image, s, f, own, chain, k),
             }
         }

@@ -21,23 +21,13 @@ use Rattle.store_kinds.specs.declared.rules.Rule.{Rule}
 use Rattle.objects_templates.specs.Search.{read_search}
 use Rattle.objects_writer.specs.Fitting.{object_length}
 use Rattle.objects_templates.specs.OffsetObject.{read_offset_object}
-use Rattle.objects_templates.specs.declared.OffsetObject.{OffsetObject}
-use Rattle.objects_templates.specs.declared.OffsetObject.TheVariants.{Offset, NoOffset}
 use Rattle.objects_templates.specs.Update.{read_update}
 use Rattle.objects_templates.specs.Reference.{read_reference}
-use Rattle.objects_templates.specs.declared.Query.{Query}
-use Rattle.objects_templates.specs.declared.Query.TheVariants.{Ask, NoQuery}
 use Rattle.objects_templates.specs.declared.Search.{Search}
-use Rattle.objects_templates.specs.declared.Update.{Update}
-use Rattle.objects_templates.specs.declared.Update.TheVariants.{Writing, NoUpdate}
-use Rattle.objects_templates.specs.declared.Reference.{Reference}
-use Rattle.objects_templates.specs.declared.Reference.TheVariants.{Refers, NoReference}
 use Rattle.objects_templates.specs.declared.Writes.{Writes}
 use Rattle.objects_templates.proofs.Searches.{search_sound}
 use Rattle.store_files.specs.Files.{file_bytes}
 use Rattle.store_files.specs.Master.{aid_of}
-use Rattle.store_files.specs.declared.AidName.{AidName}
-use Rattle.store_files.specs.declared.AidName.TheVariants.{Application, OtherAid}
 use Rattle.store_files.specs.declared.Transparent.{Transparent}
 use Rattle.store_files.specs.declared.File.{File}
 use Rattle.machine_session.specs.Resolve.{resolve_record, resolve_transparent, resolve_biometrics, resolve_file}
@@ -47,26 +37,14 @@ use Rattle.machine_session.specs.declared.Named.{Named}
 use Rattle.machine_session.specs.declared.Named.TheVariants.{Current, Id}
 use Rattle.machine_session.specs.declared.Access.{Access}
 use Rattle.machine_session.specs.declared.Access.TheVariants.{Read, Append}
-use Rattle.machine_session.specs.declared.RecordNumber.{RecordNumber}
-use Rattle.machine_session.specs.declared.RecordNumber.TheVariants.{Number, NoNumber}
-use Rattle.machine_session.specs.declared.ResolvedRecord.{ResolvedRecord}
-use Rattle.machine_session.specs.declared.ResolvedRecord.TheVariants.{RecordStop, RecordAt}
-use Rattle.machine_session.specs.declared.ResolvedTransparent.{ResolvedTransparent}
-use Rattle.machine_session.specs.declared.ResolvedTransparent.TheVariants.{TransparentStop, TransparentAt}
-use Rattle.machine_session.specs.declared.ResolvedBiometrics.{ResolvedBiometrics}
-use Rattle.machine_session.specs.declared.ResolvedBiometrics.TheVariants.{BiometricsStop, BiometricsAt}
-use Rattle.machine_session.specs.declared.ResolvedFile.{ResolvedFile}
-use Rattle.machine_session.specs.declared.ResolvedFile.TheVariants.{FileStop, FileAt}
 use Rattle.machine_session.proofs.Steps.{in_order-each, RecordResolved, TransparentResolved, BiometricsResolved, FileResolved, RecordOk, TransparentOk, BiometricsOk, AnyOk, resolve_record-well_formed, resolve_transparent-well_formed, resolve_biometrics-well_formed, resolve_file-well_formed}
 use Rattle.machine_apdu.specs.Status.{normal, wrong_length}
 use Rattle.machine_apdu.specs.Shape.{shape_of}
-use Rattle.machine_apdu.specs.declared.Apdu.{Apdu}
-use Rattle.machine_apdu.specs.declared.Apdu.TheVariants.{Bad, Good}
 use Rattle.machine_apdu.specs.declared.Frame.{Frame}
 use Rattle.machine_chain.specs.Chain.{Chain, so_far}
 use Rattle.machine_link.specs.Link.{turn}
 use Rattle.machine_link.specs.declared.Course.{Course}
-use Rattle.machine_link.specs.declared.Course.TheVariants.{Stops, Extends, Goes}
+use Rattle.machine_link.specs.declared.Course.TheVariants.{Extends, Goes}
 use Rattle.machine_link.proofs.Turning.{Turned, stopped, joined, gone, turn-told}
 use Rattle.machine_apdu.proofs.Laws.{shape_facts}
 use Rattle.machine_action.specs.Tests.{lc_only, p1p2, id_in, or_current, id_or_current, on_record, on_transparent, on_biometrics, on_file}
@@ -83,7 +61,9 @@ use Rattle.machine_select.specs.Fmm.{fmm_on, fmm_named, fmm_file, fmm_by, fmm}
 use Rattle.machine_dispatch.specs.Decide.{by_ins, by_own_ins, by_class, whole_frame, data_by, data_of, on_course, by_shape, decide}
 use Rattle.machine_dispatch.specs.Loops.{Allowed}
 use Rattle.machine_action.specs.declared.Action.{Action}
-use Rattle.machine_action.specs.declared.Action.TheVariants.{Status, SelectApplication, SelectFile, ReadBinary, UpdateBinary, Activate, AppendRecord, ReadRecord, SearchRecord, Report, ReadBinaryOdd}
+use Rattle.machine_action.specs.declared.Action.TheVariants.{SelectApplication, SelectFile, ReadBinary, UpdateBinary, Activate, AppendRecord, ReadRecord, SearchRecord, Report, ReadBinaryOdd}
+use Rattle.std.specs.Prelude.{Option, Some, None, Result, Ok, Err}
+use Rattle.objects_templates.specs.Span.{Span}
 
 -- an append: the file is resolved, and the record has 1 to longest bytes, is not one too many, and fits
 pub record Appends (img : List ℕ) (s : Session) (n : ℕ) (r : Rule) : Type 0 where
@@ -106,8 +86,8 @@ Pair f c i = (eqb f.header.cla c ≡ true) × (eqb f.header.ins i ≡ true)
 -- READ RECORD, from record a to record b of r
 pub record ReadBy (img : List ℕ) (s : Session) (f : Frame) (r : Rule) (a b : ℕ) : Type 0 where
   pub pair : Pair f 0x00 0xB2
-  pub at : resolve_record img s Read (or_current (f.header.p2 / 8)) ≡ RecordAt r
-  pub first : record_named s r f.header.p1 ≡ Number a
+  pub at : resolve_record img s Read (or_current (f.header.p2 / 8)) ≡ Ok r
+  pub first : record_named s r f.header.p1 ≡ Some a
   pub last : b ≡ if_else (eqb (f.header.p2 % 8) 4) a (count (body img r.kind))
   pub file : RecordResolved img s Read r
   pub there : is_record_of img r a ≡ true
@@ -115,57 +95,57 @@ pub record ReadBy (img : List ℕ) (s : Session) (f : Frame) (r : Rule) (a b : �
 -- SEARCH RECORD of r, as q asks, for a reply of up to ne bytes
 pub record SearchBy (img : List ℕ) (s : Session) (f : Frame) (d : List ℕ) (r : Rule) (q : Search) (ne : ℕ) : Type 0 where
   pub pair : Pair f 0x00 0xA2
-  pub asks : read_search d ≡ Ask q
-  pub at : resolve_record img s Read (search_named (file_in d q)) ≡ RecordAt r
+  pub asks : read_search d ≡ Some q
+  pub at : resolve_record img s Read (search_named (file_in d q)) ≡ Ok r
   pub most : ne ≡ f.ne
   pub file : RecordResolved img s Read r
 
 -- the command that an action comes from, and the tests of it that held; a status word alone is below 9000
-abbrev pub From : List ℕ → Session → Frame → List ℕ → Action → Type 0
-From img s f d (Status w) = ltb w 0x9000 ≡ true
-From img s f d (SelectApplication a) = Pair f 0x00 0xA4 × (application_fits img a ≡ true)
-From img s f d (SelectFile g) = Pair f 0x00 0xA4 × FileResolved img s g
-From img s f d (ReadBinary t o n) = Pair f 0x00 0xB0 × TransparentResolved img s t × (n ≤ 2048) × (o + n ≤ length (file_bytes img t))
-From img s f d (UpdateBinary n w) = Pair f 0x00 0xD7 × Writable img s n w
-From img s f d (Activate n) = Pair f 0x00 0x44 × BiometricsResolved img s n
-From img s f d (AppendRecord r) = Pair f 0x00 0xE2 × (resolve_record img s Append (or_current (f.header.p2 / 8)) ≡ RecordAt r) × Appends img s (length d) r
-From img s f d (ReadRecord r a b) = ReadBy img s f r a b
-From img s f d (SearchRecord r q ne) = SearchBy img s f d r q ne
-From img s f d (Report g p2) = Pair f 0x80 0x5E × FileResolved img s g
-From img s f d (ReadBinaryOdd t o n) = Pair f 0x00 0xB1 × TransparentResolved img s t × (object_length n ≤ 2048) × (o + n ≤ length (file_bytes img t))
+abbrev pub From : List ℕ → Session → Frame → List ℕ → Result Action ℕ → Type 0
+From img s f d (Err w) = ltb w 0x9000 ≡ true
+From img s f d (Ok (SelectApplication a)) = Pair f 0x00 0xA4 × (application_fits img a ≡ true)
+From img s f d (Ok (SelectFile g)) = Pair f 0x00 0xA4 × FileResolved img s g
+From img s f d (Ok (ReadBinary t o n)) = Pair f 0x00 0xB0 × TransparentResolved img s t × (n ≤ 2048) × (o + n ≤ length (file_bytes img t))
+From img s f d (Ok (UpdateBinary n w)) = Pair f 0x00 0xD7 × Writable img s n w
+From img s f d (Ok (Activate n)) = Pair f 0x00 0x44 × BiometricsResolved img s n
+From img s f d (Ok (AppendRecord r)) = Pair f 0x00 0xE2 × (resolve_record img s Append (or_current (f.header.p2 / 8)) ≡ Ok r) × Appends img s (length d) r
+From img s f d (Ok (ReadRecord r a b)) = ReadBy img s f r a b
+From img s f d (Ok (SearchRecord r q ne)) = SearchBy img s f d r q ne
+From img s f d (Ok (Report g p2)) = Pair f 0x80 0x5E × FileResolved img s g
+From img s f d (Ok (ReadBinaryOdd t o n)) = Pair f 0x00 0xB1 × TransparentResolved img s t × (object_length n ≤ 2048) × (o + n ≤ length (file_bytes img t))
 
 module _ (img : List ℕ) (s : Session) (f : Frame) (d : List ℕ) where
-  abbrev P : Action → Type 0
+  abbrev P : Result Action ℕ → Type 0
   P = From img s f d
 
   -- with the file that steps 7 to 9 answer
-  on-record : (x : Access) (named : Named) (go : Rule → Action) → ((r : Rule) → resolve_record img s x named ≡ RecordAt r → RecordResolved img s x r → P (go r)) → P (on_record (resolve_record img s x named) go)
+  on-record : (x : Access) (named : Named) (go : Rule → Result Action ℕ) → ((r : Rule) → resolve_record img s x named ≡ Ok r → RecordResolved img s x r → P (go r)) → P (on_record (resolve_record img s x named) go)
   on-record x named go h = by (resolve_record img s x named) refl (resolve_record-well_formed img s x named)
     where
-      by : (a : ResolvedRecord) → resolve_record img s x named ≡ a → RecordOk img s x a → P (on_record a go)
-      by (RecordStop w) e o = o
-      by (RecordAt r) e o = h r e o
+      by : (a : Result Rule ℕ) → resolve_record img s x named ≡ a → RecordOk img s x a → P (on_record a go)
+      by (Err w) e o = o
+      by (Ok r) e o = h r e o
 
-  on-transparent : (named : Named) (go : Transparent → Action) → ((t : Transparent) → TransparentResolved img s t → P (go t)) → P (on_transparent (resolve_transparent img s named) go)
+  on-transparent : (named : Named) (go : Transparent → Result Action ℕ) → ((t : Transparent) → TransparentResolved img s t → P (go t)) → P (on_transparent (resolve_transparent img s named) go)
   on-transparent named go h = by (resolve_transparent img s named) (resolve_transparent-well_formed img s named)
     where
-      by : (a : ResolvedTransparent) → TransparentOk img s a → P (on_transparent a go)
-      by (TransparentStop w) o = o
-      by (TransparentAt t) o = h t o
+      by : (a : Result Transparent ℕ) → TransparentOk img s a → P (on_transparent a go)
+      by (Err w) o = o
+      by (Ok t) o = h t o
 
-  on-biometrics : (named : Named) (go : ℕ → Action) → ((n : ℕ) → BiometricsResolved img s n → P (go n)) → P (on_biometrics (resolve_biometrics img s named) go)
+  on-biometrics : (named : Named) (go : ℕ → Result Action ℕ) → ((n : ℕ) → BiometricsResolved img s n → P (go n)) → P (on_biometrics (resolve_biometrics img s named) go)
   on-biometrics named go h = by (resolve_biometrics img s named) (resolve_biometrics-well_formed img s named)
     where
-      by : (a : ResolvedBiometrics) → BiometricsOk img s a → P (on_biometrics a go)
-      by (BiometricsStop w) o = o
-      by (BiometricsAt n) o = h n o
+      by : (a : Result ℕ ℕ) → BiometricsOk img s a → P (on_biometrics a go)
+      by (Err w) o = o
+      by (Ok n) o = h n o
 
-  on-file : (named : Named) (go : File → Action) → ((g : File) → FileResolved img s g → P (go g)) → P (on_file (resolve_file img s named) go)
+  on-file : (named : Named) (go : File → Result Action ℕ) → ((g : File) → FileResolved img s g → P (go g)) → P (on_file (resolve_file img s named) go)
   on-file named go h = by (resolve_file img s named) (resolve_file-well_formed img s named)
     where
-      by : (a : ResolvedFile) → AnyOk img s a → P (on_file a go)
-      by (FileStop w) o = o
-      by (FileAt g) o = h g o
+      by : (a : Result File ℕ) → AnyOk img s a → P (on_file a go)
+      by (Err w) o = o
+      by (Ok g) o = h g o
 
   select-from : Pair f 0x00 0xA4 → P (select img s f d)
   unfolding select
@@ -174,14 +154,17 @@ module _ (img : List ℕ) (s : Session) (f : Frame) (d : List ℕ) where
       master : (x : ℕ) → P (select_master x)
       master x = unfold select_master application_fits in if_else_ind P (eqb x 0x3F00) (λ e. (i, refl)) (λ e. refl)
 
-      aid : (a : AidName) → P (select_aid img s a)
-      aid OtherAid = refl
-      aid (Application a) =
+      application : (a : ℕ) → P (select_aid img s (Some a))
+      application a =
           unfold application_fits in
           in_order-each P _ _ (refl, (refl, tt)) (λ p. (i, ap (λ (b : Bool). eqb a 0 || b) p.0 ∙ or-true (eqb a 0)))
 
+      aid : (a : Option ℕ) → P (select_aid img s a)
+      aid None = refl
+      aid (Some a) = application a
+
       file : (x : ℕ) → P (select_file img s x)
-      file x = unfold select_file in on-file (Id x) SelectFile (λ g r. (i, r))
+      file x = unfold select_file in on-file (Id x) (λ (g : File). Ok (SelectFile g)) (λ g r. (i, r))
 
       chosen : (p1 : ℕ) → P (select_by img s p1 d)
       chosen p1 = unfold select_by in if_else_ind P (eqb p1 0x04) (λ e. aid (aid_of d)) (λ e. if_else_ind P (eqb p1 0x02) (λ e. file (id_in d)) (λ e. master (id_in d)))
@@ -205,9 +188,9 @@ module _ (img : List ℕ) (s : Session) (f : Frame) (d : List ℕ) where
           in_order-each P _ _ (refl, (refl, tt))
           (λ p. let b = odd_bounds img o f.ne t p.0 p.1.0 in (i, r, b.short, b.inside))
 
-      data-field : (x : OffsetObject) → P (read_odd_by img s f x)
-      data-field NoOffset = refl
-      data-field (Offset o) = on-transparent (id_or_current (p1p2 f)) (read_odd_on img o f.ne) (read o)
+      data-field : (x : Option ℕ) → P (read_odd_by img s f x)
+      data-field None = refl
+      data-field (Some o) = on-transparent (id_or_current (p1p2 f)) (read_odd_on img o f.ne) (read o)
 
   update-from : Pair f 0x00 0xD7 → P (update_binary img s f d)
   unfolding update_binary
@@ -216,13 +199,13 @@ module _ (img : List ℕ) (s : Session) (f : Frame) (d : List ℕ) where
       write : (w : Writes) (n : ℕ) → BiometricsResolved img s n → P (update_on img w n)
       write w n r = unfold update_on in in_order-each P _ _ (refl, (refl, tt)) (λ p. (i, record { file = r; behind = p.0; room = p.1.0 }))
 
-      data-field : (u : Update) → P (update_by img s (p1p2 f) u)
-      data-field NoUpdate = refl
-      data-field (Writing w) = on-biometrics (id_or_current (p1p2 f)) (update_on img w) (write w)
+      data-field : (u : Option Writes) → P (update_by img s (p1p2 f) u)
+      data-field None = refl
+      data-field (Some w) = on-biometrics (id_or_current (p1p2 f)) (update_on img w) (write w)
 
   activate-from : Pair f 0x00 0x44 → P (activate_file img s f)
   unfolding activate_file
-  activate-from i = in_order-each P _ _ (refl, (refl, tt)) (λ p. on-biometrics Current Activate (λ n r. (i, r)))
+  activate-from i = in_order-each P _ _ (refl, (refl, tt)) (λ p. on-biometrics Current (λ (n : ℕ). Ok (Activate n)) (λ n r. (i, r)))
 
   append-from : length d ≡ f.lc → Pair f 0x00 0xE2 → P (append_record img s f d)
   unfolding append_record
@@ -233,7 +216,7 @@ module _ (img : List ℕ) (s : Session) (f : Frame) (d : List ℕ) where
       some : lc_only f ≡ true → 1 ≤ length d
       some e = let h = leb-true 1 f.lc (unfold lc_only in (all_of_facts _ e).0) in omega arith
 
-      on : (r : Rule) → resolve_record img s Append (or_current (f.header.p2 / 8)) ≡ RecordAt r → RecordResolved img s Append r → 1 ≤ length d → P (append_on img (length d) r)
+      on : (r : Rule) → resolve_record img s Append (or_current (f.header.p2 / 8)) ≡ Ok r → RecordResolved img s Append r → 1 ≤ length d → P (append_on img (length d) r)
       on r e o h =
           unfold append_on in
           in_order-each P _ _ (refl, (refl, (refl, tt))) (λ p. (i, e, record { file = o; some = h; short = p.0; few = p.1.0; room = p.1.1.0 }))
@@ -243,21 +226,21 @@ module _ (img : List ℕ) (s : Session) (f : Frame) (d : List ℕ) where
   read-record-from i =
       in_order-each P _ _ (refl, (refl, tt)) (λ p. on-record Read (or_current (f.header.p2 / 8)) (read_record_on img s f) on)
     where
-      on : (r : Rule) → resolve_record img s Read (or_current (f.header.p2 / 8)) ≡ RecordAt r → RecordResolved img s Read r → P (read_record_on img s f r)
+      on : (r : Rule) → resolve_record img s Read (or_current (f.header.p2 / 8)) ≡ Ok r → RecordResolved img s Read r → P (read_record_on img s f r)
       on r e o = unfold read_record_on in go (record_named s r f.header.p1) refl
         where
-          go : (n : RecordNumber) → record_named s r f.header.p1 ≡ n → P (read_from img (eqb (f.header.p2 % 8) 4) r n)
-          go NoNumber q = refl
-          go (Number n) q =
+          go : (n : Option ℕ) → record_named s r f.header.p1 ≡ n → P (read_from img (eqb (f.header.p2 % 8) 4) r n)
+          go None q = refl
+          go (Some n) q =
               in_order-each P _ _ (refl, tt) (λ p. record { pair = i; at = e; first = q; last = refl; file = o; there = p.0 })
 
   search-from : Pair f 0x00 0xA2 → P (search_record img s f d)
   unfolding search_record
   search-from i = in_order-each P _ _ (refl, (refl, tt)) (λ p. data-field (read_search d) refl)
     where
-      data-field : (q : Query) → read_search d ≡ q → P (search_by img s f.ne d q)
-      data-field NoQuery e = refl
-      data-field (Ask q) e =
+      data-field : (q : Option Search) → read_search d ≡ q → P (search_by img s f.ne d q)
+      data-field None e = refl
+      data-field (Some q) e =
           on-record Read (search_named (file_in d q)) (search_on q f.ne) (λ r w o. record { pair = i; asks = e; at = w; most = refl; file = o })
 
   fmm-from : Pair f 0x80 0x5E → P (fmm img s f d)
@@ -275,9 +258,9 @@ module _ (img : List ℕ) (s : Session) (f : Frame) (d : List ℕ) where
       file : (p2 : ℕ) (v : List ℕ) → P (fmm_file img s p2 v)
       file p2 v = unfold fmm_file in if_else_ind P (eqb (length v) 1) (λ e. in_order-each P _ _ (refl, tt) (λ p. named p2 _)) (λ e. named p2 (Id (id_in v)))
 
-      data-field : (p2 : ℕ) (r : Reference) → P (fmm_by img s p2 d r)
-      data-field p2 NoReference = refl
-      data-field p2 (Refers q) = file p2 (part d q.at q.len)
+      data-field : (p2 : ℕ) (r : Option Span) → P (fmm_by img s p2 d r)
+      data-field p2 None = refl
+      data-field p2 (Some q) = file p2 (part d q.at q.len)
 
   -- steps 2 and 3
   pub class-from : length d ≡ f.lc → P (by_class img s f d)
@@ -295,27 +278,27 @@ module _ (img : List ℕ) (s : Session) (f : Frame) (d : List ℕ) where
       (λ n. if_else_ind P (eqb f.header.cla 0x80) (λ c. if_else_ind P (eqb f.header.ins 0x5E) (λ e. fmm-from (c, e)) (λ n. refl)) (λ n. refl))
 
 -- what a command comes to tells of the command: a status word below 9000; a link that is taken; or the whole command
-abbrev pub FromCourse : Course → List ℕ → Session → Frame → List ℕ → Action → Type 0
-FromCourse (Stops w) img s f d x = (x ≡ Status w) × (ltb w 0x9000 ≡ true)
-FromCourse Extends img s f d x = x ≡ Status normal
-FromCourse Goes img s f d x = From img s f d x
+abbrev pub FromCourse : Result Course ℕ → List ℕ → Session → Frame → List ℕ → Result Action ℕ → Type 0
+FromCourse (Err w) img s f d x = (x ≡ Err w) × (ltb w 0x9000 ≡ true)
+FromCourse (Ok Extends) img s f d x = x ≡ Err normal
+FromCourse (Ok Goes) img s f d x = From img s f d x
 
-abbrev pub FromShape : List ℕ → Session → Chain → List ℕ → Apdu → Action → Type 0
-FromShape img s ch cmd Bad x = x ≡ Status wrong_length
-FromShape img s ch cmd (Good f) x = FromCourse (turn ch f) img s (whole_frame ch f) (so_far ch ++ part cmd f.from f.lc) x
+abbrev pub FromShape : List ℕ → Session → Chain → List ℕ → Option Frame → Result Action ℕ → Type 0
+FromShape img s ch cmd None x = x ≡ Err wrong_length
+FromShape img s ch cmd (Some f) x = FromCourse (turn ch f) img s (whole_frame ch f) (so_far ch ++ part cmd f.from f.lc) x
 
 pub decide-from : (img : List ℕ) (s : Session) (ch : Chain) (cmd : List ℕ) → FromShape img s ch cmd (shape_of cmd) (decide img s ch cmd)
 unfolding decide
 decide-from img s ch cmd = go (shape_of cmd) refl
   where
-    course : (g f : Frame) (d : List ℕ) (k : Course) → length d ≡ f.lc → Turned ch g k → FromCourse k img s f d (on_course k img s f d)
-    course g f d (Stops w) l (stopped v b) = (refl, b)
-    course g f d Extends l (joined x) = refl
-    course g f d Goes l (gone x) = class-from img s f d l
+    course : (g f : Frame) (d : List ℕ) (k : Result Course ℕ) → length d ≡ f.lc → Turned ch g k → FromCourse k img s f d (on_course k img s f d)
+    course g f d (Err w) l (stopped v b) = (refl, b)
+    course g f d (Ok Extends) l (joined x) = refl
+    course g f d (Ok Goes) l (gone x) = class-from img s f d l
 
-    go : (a : Apdu) → shape_of cmd ≡ a → FromShape img s ch cmd a (by_shape img s ch cmd a)
-    go Bad e = refl
-    go (Good f) e =
+    go : (a : Option Frame) → shape_of cmd ≡ a → FromShape img s ch cmd a (by_shape img s ch cmd a)
+    go None e = refl
+    go (Some f) e =
         let h = shape_facts cmd (shape_of cmd) f refl e in
         let d = part cmd f.from f.lc in
         course f (whole_frame ch f) (so_far ch ++ d) (turn ch f)
@@ -323,25 +306,25 @@ decide-from img s ch cmd = go (shape_of cmd) refl
         (turn-told ch f)
 
 -- the file reference of a search has at most two bytes
-pub reference-short : (d : List ℕ) (q : Search) → read_search d ≡ Ask q → AllBytes d → length (file_in d q) ≤ 2
+pub reference-short : (d : List ℕ) (q : Search) → read_search d ≡ Some q → AllBytes d → length (file_in d q) ≤ 2
 reference-short d q e b =
     let z = search_sound d q e b in
     let x = z.0 in
     let l : length (part d q.file.at q.file.len) ≡ length x.file = ap length z.1.file_placed.is in
     omega (arith, z.1.sized.file_size.1)
 
-pub from_allowed : (img : List ℕ) (s : Session) (f : Frame) (d : List ℕ) (x : Action) → AllBytes d → From img s f d x → Allowed img d x
-from_allowed img s f d (Status w) b h = tt
-from_allowed img s f d (SelectApplication a) b h = tt
-from_allowed img s f d (SelectFile g) b h = tt
-from_allowed img s f d (ReadBinary t o n) b h = (h.2, h.3)
-from_allowed img s f d (UpdateBinary n w) b h = tt
-from_allowed img s f d (Activate n) b h = tt
-from_allowed img s f d (AppendRecord r) b h = tt
-from_allowed img s f d (ReadRecord r a z) b h = (h.file.file.ok, h.there)
-from_allowed img s f d (SearchRecord r q ne) b h = (h.file.file.ok, reference-short d q h.asks b)
-from_allowed img s f d (Report g p2) b h = tt
-from_allowed img s f d (ReadBinaryOdd t o n) b h = (h.2, h.3)
+pub from_allowed : (img : List ℕ) (s : Session) (f : Frame) (d : List ℕ) (x : Result Action ℕ) → AllBytes d → From img s f d x → Allowed img d x
+from_allowed img s f d (Err w) b h = tt
+from_allowed img s f d (Ok (SelectApplication a)) b h = tt
+from_allowed img s f d (Ok (SelectFile g)) b h = tt
+from_allowed img s f d (Ok (ReadBinary t o n)) b h = (h.2, h.3)
+from_allowed img s f d (Ok (UpdateBinary n w)) b h = tt
+from_allowed img s f d (Ok (Activate n)) b h = tt
+from_allowed img s f d (Ok (AppendRecord r)) b h = tt
+from_allowed img s f d (Ok (ReadRecord r a z)) b h = (h.file.file.ok, h.there)
+from_allowed img s f d (Ok (SearchRecord r q ne)) b h = (h.file.file.ok, reference-short d q h.asks b)
+from_allowed img s f d (Ok (Report g p2)) b h = tt
+from_allowed img s f d (Ok (ReadBinaryOdd t o n)) b h = (h.2, h.3)
 
 pub bytes-part : (c : List ℕ) (a n : ℕ) → AllBytes c → AllBytes (part c a n)
 unfolding AllBytes
@@ -365,15 +348,15 @@ pub decide_allowed : (img : List ℕ) (s : Session) (ch : Chain) (cmd : List ℕ
 unfolding data_of
 decide_allowed img s ch cmd a b = go (shape_of cmd) (decide-from img s ch cmd)
   where
-    x : Action
+    x : Result Action ℕ
     x = decide img s ch cmd
 
-    course : (f : Frame) (d : List ℕ) (k : Course) → AllBytes d → FromCourse k img s f d x → Allowed img d x
-    course f d (Stops w) z h = subst (Allowed img d) (sym h.0) tt
-    course f d Extends z h = subst (Allowed img d) (sym h) tt
-    course f d Goes z h = from_allowed img s f d x z h
+    course : (f : Frame) (d : List ℕ) (k : Result Course ℕ) → AllBytes d → FromCourse k img s f d x → Allowed img d x
+    course f d (Err w) z h = subst (Allowed img d) (sym h.0) tt
+    course f d (Ok Extends) z h = subst (Allowed img d) (sym h) tt
+    course f d (Ok Goes) z h = from_allowed img s f d x z h
 
-    go : (p : Apdu) → FromShape img s ch cmd p x → Allowed img (data_by ch cmd p) x
-    go Bad h = subst (Allowed img []) (sym h) tt
-    go (Good f) h =
+    go : (p : Option Frame) → FromShape img s ch cmd p x → Allowed img (data_by ch cmd p) x
+    go None h = subst (Allowed img []) (sym h) tt
+    go (Some f) h =
         course (whole_frame ch f) (so_far ch ++ part cmd f.from f.lc) (turn ch f) (bytes-append (so_far ch) _ a (bytes-part cmd f.from f.lc b)) h

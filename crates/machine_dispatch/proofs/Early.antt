@@ -9,15 +9,12 @@ use borrow.Author.Tests.{eqb-true}
 use Rattle.base.specs.Choice.{if_else, all_of}
 use Rattle.base.proofs.Cases.{by_cases, false-true}
 use Rattle.objects_templates.specs.OffsetObject.{read_offset_object}
-use Rattle.objects_templates.specs.declared.OffsetObject.{OffsetObject}
-use Rattle.objects_templates.specs.declared.OffsetObject.TheVariants.{Offset, NoOffset}
 use Rattle.machine_apdu.specs.Status.{wrong_class, wrong_instruction, wrong_parameters, wrong_length}
 use Rattle.machine_apdu.specs.declared.Frame.{Frame}
 use Rattle.machine_apdu.specs.declared.Header.{Header}
 use Rattle.machine_session.specs.Order.{in_order}
 use Rattle.machine_session.specs.declared.Session.{Session}
 use Rattle.machine_action.specs.Tests.{lc_only, le_only, lc_and_le, neither, all_le}
-use Rattle.machine_action.specs.declared.Action.TheVariants.{Status}
 use Rattle.machine_select.specs.Select.{select_p2, one_of_three, select}
 use Rattle.machine_select.specs.Fmm.{fmm_p1, fmm_p2, fmm}
 use Rattle.machine_binary.specs.ReadBinary.{p1_fits, read_named, read_offset, read_binary}
@@ -30,6 +27,8 @@ use Rattle.machine_record.specs.SearchRecord.{search_parameters, search_record}
 use Rattle.machine_link.specs.Parameters.{parameters_fit}
 use Rattle.machine_link.specs.Link.{is_command}
 use Rattle.machine_dispatch.specs.Decide.{by_ins, by_own_ins, by_class}
+use Rattle.std.specs.Prelude.{Option, Some, None}
+use Rattle.std.specs.Prelude.{Err}
 
 -- ---- where the data begin
 
@@ -40,11 +39,11 @@ module _ (img : List ℕ) (s : Session) (f : Frame) (a : ℕ) (d : List ℕ) whe
 
   odd-moved : read_binary_odd img s f d ≡ read_binary_odd img s moved d
   unfolding read_binary_odd lc_and_le
-  odd-moved = ap (in_order ((lc_and_le f, Status wrong_length) ∷ [])) (go (read_offset_object d))
+  odd-moved = ap (in_order ((lc_and_le f, Err wrong_length) ∷ [])) (go (read_offset_object d))
     where
-      go : (x : OffsetObject) → read_odd_by img s f x ≡ read_odd_by img s moved x
-      go NoOffset = refl
-      go (Offset o) = refl
+      go : (x : Option ℕ) → read_odd_by img s f x ≡ read_odd_by img s moved x
+      go None = refl
+      go (Some o) = refl
 
   class-moved : by_class img s f d ≡ by_class img s moved d
   unfolding by_class by_ins by_own_ins select read_binary read_named read_offset update_binary activate_file append_record read_record read_record_on search_record fmm lc_only le_only neither all_le all_of_record
@@ -78,31 +77,31 @@ module _ (img : List ℕ) (s : Session) (f : Frame) (d : List ℕ) where
   h = f.header
 
   -- step 4 of each command that has one
-  select-early : all_of (select_p2 h.p2 ∷ one_of_three h.p1 ∷ []) ≡ false → select img s f d ≡ Status wrong_parameters
+  select-early : all_of (select_p2 h.p2 ∷ one_of_three h.p1 ∷ []) ≡ false → select img s f d ≡ Err wrong_parameters
   unfolding select in_order
   select-early e = two (select_p2 h.p2) (one_of_three h.p1) _ _ e
 
-  read-binary-early : p1_fits h.p1 ≡ false → read_binary img s f ≡ Status wrong_parameters
+  read-binary-early : p1_fits h.p1 ≡ false → read_binary img s f ≡ Err wrong_parameters
   unfolding read_binary in_order
   read-binary-early e = simp e
 
-  activate-early : activate_parameters h.p1 h.p2 ≡ false → activate_file img s f ≡ Status wrong_parameters
+  activate-early : activate_parameters h.p1 h.p2 ≡ false → activate_file img s f ≡ Err wrong_parameters
   unfolding activate_file in_order
   activate-early e = simp e
 
-  append-early : append_parameters h.p1 h.p2 ≡ false → append_record img s f d ≡ Status wrong_parameters
+  append-early : append_parameters h.p1 h.p2 ≡ false → append_record img s f d ≡ Err wrong_parameters
   unfolding append_record in_order
   append-early e = simp e
 
-  read-record-early : four_or_five (h.p2 % 8) ≡ false → read_record img s f ≡ Status wrong_parameters
+  read-record-early : four_or_five (h.p2 % 8) ≡ false → read_record img s f ≡ Err wrong_parameters
   unfolding read_record in_order
   read-record-early e = simp e
 
-  search-early : search_parameters h.p1 h.p2 ≡ false → search_record img s f d ≡ Status wrong_parameters
+  search-early : search_parameters h.p1 h.p2 ≡ false → search_record img s f d ≡ Err wrong_parameters
   unfolding search_record in_order
   search-early e = simp e
 
-  fmm-early : all_of (fmm_p1 h.p1 ∷ fmm_p2 h.p2 ∷ []) ≡ false → fmm img s f d ≡ Status wrong_parameters
+  fmm-early : all_of (fmm_p1 h.p1 ∷ fmm_p2 h.p2 ∷ []) ≡ false → fmm img s f d ≡ Err wrong_parameters
   unfolding fmm in_order
   fmm-early e = two (fmm_p1 h.p1) (fmm_p2 h.p2) _ _ e
 
@@ -114,7 +113,7 @@ module _ (img : List ℕ) (s : Session) (f : Frame) (d : List ℕ) where
       by_cases (parameters_fit i h.p1 h.p2) (λ e. false-true (sym n ∙ simp (ec, ei, k, m, e))) (λ e. e)
 
   -- CLA 00
-  iso-early : h.cla ≡ 0x00 → head_fits h ≡ false → by_ins img s f d ≡ Status (if_else (is_command 0x00 h.ins) wrong_parameters wrong_instruction)
+  iso-early : h.cla ≡ 0x00 → head_fits h ≡ false → by_ins img s f d ≡ Err (if_else (is_command 0x00 h.ins) wrong_parameters wrong_instruction)
   unfolding by_ins is_command parameters_fit
   iso-early c n =
       by_cases (eqb h.ins 0xA4) (λ z. let i = eqb-true h.ins 0xA4 z in simp i (select-early (unfit 0x00 0xA4 c i refl refl n)))
@@ -128,12 +127,12 @@ module _ (img : List ℕ) (s : Session) (f : Frame) (d : List ℕ) where
       (λ p. simp (a, b, j, k, l, m, o, p)))))))))
 
   -- CLA 80
-  own-early : h.cla ≡ 0x80 → head_fits h ≡ false → by_own_ins img s f d ≡ Status (if_else (is_command 0x80 h.ins) wrong_parameters wrong_instruction)
+  own-early : h.cla ≡ 0x80 → head_fits h ≡ false → by_own_ins img s f d ≡ Err (if_else (is_command 0x80 h.ins) wrong_parameters wrong_instruction)
   unfolding by_own_ins is_command parameters_fit
   own-early c n =
       by_cases (eqb h.ins 0x5E) (λ z. let i = eqb-true h.ins 0x5E z in simp i (fmm-early (unfit 0x80 0x5E c i refl refl n))) (λ a. simp a)
 
-  pub early : head_fits h ≡ false → by_class img s f d ≡ Status (early_word h)
+  pub early : head_fits h ≡ false → by_class img s f d ≡ Err (early_word h)
   unfolding by_class early_word
   early n =
       by_cases (eqb h.cla 0x00) (λ z. let c = eqb-true h.cla 0x00 z in simp c (iso-early c n))

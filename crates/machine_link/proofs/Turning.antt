@@ -14,9 +14,10 @@ use Rattle.machine_session.proofs.Steps.{in_order-each}
 use Rattle.machine_action.specs.Tests.{lc_only}
 use Rattle.machine_chain.specs.Chain.{Chain, NoChain, Links, is_amid, so_far}
 use Rattle.machine_link.specs.declared.Course.{Course}
-use Rattle.machine_link.specs.declared.Course.TheVariants.{Stops, Extends, Goes}
+use Rattle.machine_link.specs.declared.Course.TheVariants.{Extends, Goes}
 use Rattle.machine_link.specs.Parameters.{parameters_fit}
 use Rattle.machine_link.specs.Link.{is_link, head_status, join_fits, link_turn, last_turn, turn}
+use Rattle.std.specs.Prelude.{Result, Ok, Err}
 
 -- the tests of a link that is taken
 pub record Extending (ch : Chain) (f : Frame) : Type 0 where
@@ -32,18 +33,18 @@ pub record Going (ch : Chain) (f : Frame) : Type 0 where
   pub last : is_amid ch ≡ true → (head_status ch f.header ≡ normal) × (join_fits ch f ≡ true)
 
 -- what stops a command is a status word below 9000
-pub data Turned (ch : Chain) (f : Frame) : Course → Type 0 where
-  stopped : (w : ℕ) → ltb w 0x9000 ≡ true → Turned ch f (Stops w)
-  joined : Extending ch f → Turned ch f Extends
-  gone : Going ch f → Turned ch f Goes
+pub data Turned (ch : Chain) (f : Frame) : Result Course ℕ → Type 0 where
+  stopped : (w : ℕ) → ltb w 0x9000 ≡ true → Turned ch f (Err w)
+  joined : Extending ch f → Turned ch f (Ok Extends)
+  gone : Going ch f → Turned ch f (Ok Goes)
 
 module _ (ch : Chain) (f : Frame) where
-  head-below : eqb (head_status ch f.header) normal ≡ false → Turned ch f (Stops (head_status ch f.header))
+  head-below : eqb (head_status ch f.header) normal ≡ false → Turned ch f (Err (head_status ch f.header))
   unfolding head_status
   head-below e =
       stopped _ (in_order-each (λ (w : ℕ). eqb w normal ≡ false → ltb w 0x9000 ≡ true) _ _ ((λ z. refl), ((λ z. refl), ((λ z. refl), tt))) (λ p z. false-true (sym z)) e)
 
-  short : Turned ch f (Stops wrong_length)
+  short : Turned ch f (Err wrong_length)
   short = stopped _ refl
 
   pub turn-told : Turned ch f (turn ch f)

@@ -1,5 +1,5 @@
 -- What a link comes to, and which chains links can have left. A command that is no link, with no chain before it, is not looked at here.
-use Rattle.std.specs.Prelude.{ℕ, ◌+◌, ◌-◌, ◌/◌, ◌%◌, Bool, true, ◌||◌, List, [], ◌∷◌, length, leb, eqb}
+use Rattle.std.specs.Prelude.{ℕ, ◌+◌, ◌-◌, ◌/◌, ◌%◌, Bool, true, ◌||◌, List, [], ◌∷◌, length, leb, eqb, Result, Ok, Err}
 use Rattle.base.specs.Choice.{if_else, all_of}
 use Rattle.machine_apdu.specs.Status.{normal, wrong_length, wrong_class, wrong_instruction, wrong_parameters, other_header}
 use Rattle.machine_apdu.specs.declared.Header.{Header}
@@ -9,7 +9,7 @@ use Rattle.machine_action.specs.Tests.{lc_only}
 use Rattle.machine_chain.specs.Chain.{Chain, NoChain, Links, is_amid, so_far, goes_on}
 use Rattle.machine_chain.specs.Layout.{is_chain, chain_in}
 use Rattle.machine_link.specs.declared.Course.{Course}
-use Rattle.machine_link.specs.declared.Course.TheVariants.{Stops, Extends, Goes}
+use Rattle.machine_link.specs.declared.Course.TheVariants.{Extends, Goes}
 use Rattle.machine_link.specs.Parameters.{parameters_fit}
 
 -- CLA b5 marks every link but the last [LK4]
@@ -36,34 +36,38 @@ head_status ch h =
     ∷ [])
     normal
 
+-- what a test answers whose status word is w: nothing stops the command where that is 9000 [LK3]
+abbrev pub passed : ℕ → Result (Unit {0}) ℕ
+passed w = if_else (eqb w normal) (Ok tt) (Err w)
+
 -- the join has at most 1,024 bytes [LK5] [LK6]
 unfoldable pub join_fits : Chain → Frame → Bool
 join_fits ch f = leb (length (so_far ch) + f.lc) 1024
 
 -- a link but the last: behind steps 2 to 4 it has data, no Le, and room [LK5]
-unfoldable pub link_turn : Chain → Frame → Course
+unfoldable pub link_turn : Chain → Frame → Result Course ℕ
 link_turn ch f =
     in_order
-    ((eqb (head_status ch f.header) normal, Stops (head_status ch f.header))
+    ((eqb (head_status ch f.header) normal, Err (head_status ch f.header))
     -- step 4
-    ∷ (parameters_fit f.header.ins f.header.p1 f.header.p2, Stops wrong_parameters)
-    ∷ (lc_only f, Stops wrong_length)
-    ∷ (join_fits ch f, Stops wrong_length)
+    ∷ (parameters_fit f.header.ins f.header.p1 f.header.p2, Err wrong_parameters)
+    ∷ (lc_only f, Err wrong_length)
+    ∷ (join_fits ch f, Err wrong_length)
     ∷ [])
-    Extends
+    (Ok Extends)
 
 -- the last link of a chain: its P1 and P2 are the chain's, so step 4 holds; at step 5 the join has to fit [LK6]
-unfoldable pub last_turn : Chain → Frame → Course
+unfoldable pub last_turn : Chain → Frame → Result Course ℕ
 last_turn ch f =
     in_order
-    ((eqb (head_status ch f.header) normal, Stops (head_status ch f.header))
-    ∷ (join_fits ch f, Stops wrong_length)
+    ((eqb (head_status ch f.header) normal, Err (head_status ch f.header))
+    ∷ (join_fits ch f, Err wrong_length)
     ∷ [])
-    Goes
+    (Ok Goes)
 
 -- without a chain a command that is no link stands for itself [LK4]
-unfoldable pub turn : Chain → Frame → Course
-turn ch f = if_else (is_link f.header) (link_turn ch f) (if_else (is_amid ch) (last_turn ch f) Goes)
+unfoldable pub turn : Chain → Frame → Result Course ℕ
+turn ch f = if_else (is_link f.header) (link_turn ch f) (if_else (is_amid ch) (last_turn ch f) (Ok Goes))
 
 -- ---- which chains links can have left
 

@@ -1,10 +1,8 @@
 -- SEARCH RECORD.
-use Rattle.std.specs.Prelude.{ℕ, ◌/◌, ◌%◌, Bool, List, [], ◌∷◌, length, get_or, leb, eqb}
+use Rattle.std.specs.Prelude.{ℕ, ◌/◌, ◌%◌, Bool, List, [], ◌∷◌, length, get_or, leb, eqb, Option, Some, None, Result, Ok, Err}
 use Rattle.base.specs.Choice.{if_else, all_of}
 use Rattle.base.specs.Bytes.{part}
 use Rattle.objects_templates.specs.Search.{read_search}
-use Rattle.objects_templates.specs.declared.Query.{Query}
-use Rattle.objects_templates.specs.declared.Query.TheVariants.{Ask, NoQuery}
 use Rattle.objects_templates.specs.declared.Search.{Search}
 use Rattle.store_kinds.specs.declared.rules.Rule.{Rule}
 use Rattle.machine_apdu.specs.Status.{normal, no_match, wrong_parameters, wrong_length, wrong_data}
@@ -18,7 +16,7 @@ use Rattle.machine_session.specs.declared.Named.TheVariants.{Short, Id}
 use Rattle.machine_session.specs.declared.Access.TheVariants.{Read}
 use Rattle.machine_action.specs.Tests.{all_le, id_in, on_record}
 use Rattle.machine_action.specs.declared.Action.{Action}
-use Rattle.machine_action.specs.declared.Action.TheVariants.{Status, SearchRecord}
+use Rattle.machine_action.specs.declared.Action.TheVariants.{SearchRecord}
 
 -- the file reference and the string that the data of a search hold [Q2]
 abbrev pub file_in : List ℕ → Search → List ℕ
@@ -37,26 +35,26 @@ unfoldable pub search_named : List ℕ → Named
 search_named v = if_else (eqb (length v) 1) (Short (search_short (get_or v 0 0))) (Id (id_in v))
 
 -- [O10]
-abbrev pub search_on : Search → ℕ → Rule → Action
-search_on q ne r = SearchRecord r q ne
+abbrev pub search_on : Search → ℕ → Rule → Result Action ℕ
+search_on q ne r = Ok (SearchRecord r q ne)
 
 -- step 6, then steps 7 to 9 [O6]
-abbrev pub search_by : List ℕ → Session → ℕ → List ℕ → Query → Action
-search_by img s ne d NoQuery = Status wrong_data
-search_by img s ne d (Ask q) = on_record (resolve_record img s Read (search_named (file_in d q))) (search_on q ne)
+abbrev pub search_by : List ℕ → Session → ℕ → List ℕ → Option Search → Result Action ℕ
+search_by img s ne d None = Err wrong_data
+search_by img s ne d (Some q) = on_record (resolve_record img s Read (search_named (file_in d q))) (search_on q ne)
 
 -- [Q1]
 abbrev pub search_parameters : ℕ → ℕ → Bool
 search_parameters p1 p2 = all_of (eqb p1 0 ∷ eqb p2 0xF8 ∷ [])
 
 -- [Q1] [O4] [O5]
-unfoldable pub search_record : List ℕ → Session → Frame → List ℕ → Action
+unfoldable pub search_record : List ℕ → Session → Frame → List ℕ → Result Action ℕ
 search_record img s f d =
     in_order
     -- step 4
-    ((search_parameters f.header.p1 f.header.p2, Status wrong_parameters)
+    ((search_parameters f.header.p1 f.header.p2, Err wrong_parameters)
     -- step 5
-    ∷ (all_of (leb 1 f.lc ∷ all_le f ∷ []), Status wrong_length)
+    ∷ (all_of (leb 1 f.lc ∷ all_le f ∷ []), Err wrong_length)
     ∷ [])
     (search_by img s f.ne d (read_search d))
 

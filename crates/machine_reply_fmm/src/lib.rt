@@ -6,7 +6,6 @@ ghost use Rattle.base.specs.Bytes.{put};
 ghost use Rattle.objects_writer.specs.Writer.{put_end};
 ghost use Rattle.machine_reply_fmm.specs.Report.{capacity, further, transparent_total, total, remaining, existing, asked, report_data};
 
-use base::natural::{min, saturating_sub};
 use store_files::{File, Transparent};
 use store_kinds::{biometrics, rules};
 use store_records::body;
@@ -15,31 +14,28 @@ use store_records::body;
 fn capacity(body: &[u8]) -> usize
     ensures { result ≡ capacity body.now }
 {
-    saturating_sub(saturating_sub(body.len(), 2), 2 * body::count(body))
+    body.len()
+        .saturating_sub(2)
+        .saturating_sub(2 * body::count(body))
 }
 
-// How many records of the longest kind go into the free bytes, each with its length. (The sum is made where it cannot wrap.)
+// How many records of the longest kind go into the free bytes, each with its length; none where the sum would wrap.
 fn times(free: usize, longest: usize) -> usize
     ensures { result ≡ free / (2 + longest) }
 {
-    if free < longest {
-        return 0;
+    match longest.checked_add(2) {
+        Some(each) => free / each,
+        None => 0,
     }
-    if free - longest < 2 {
-        return 0;
-    }
-    free / (2 + longest)
 }
 
 // How many more records a record body surely takes.
 fn further(body: &[u8], longest: usize, most: usize) -> usize
     ensures { result ≡ further longest most body.now }
 {
-    let left = saturating_sub(most, body::count(body));
-    min(
-        left,
-        times(saturating_sub(body.len(), body::used(body)), longest),
-    )
+    let left = most.saturating_sub(body::count(body));
+    let free = body.len().saturating_sub(body::used(body));
+    left.min(times(free, longest))
 }
 
 fn transparent_total(image: &[u8], t: Transparent) -> usize

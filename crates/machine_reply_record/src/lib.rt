@@ -8,7 +8,6 @@ ghost use Rattle.base.specs.Choice.{if_else};
 ghost use Rattle.store_records.specs.Body.{records};
 ghost use Rattle.machine_reply_record.specs.Joined.{records_data};
 
-use base::natural::{min, saturating_sub};
 use store_records::body;
 
 // The most bytes that are returned.
@@ -32,17 +31,16 @@ pub fn put_records(body: &[u8], first: usize, last: usize, out: &mut [u8]) -> us
     if out.len() < CUT {
         return 0;
     }
-    let end = min(last, body::count(body));
-    let mut n = min(saturating_sub(first, 1), end);
-    let mut at = body::place(body, n);
+    let end = last.min(body::count(body));
+    let start = first.saturating_sub(1).min(end);
+    let mut at = body::place(body, start);
     let mut len = 0;
-    while n < end {
+    for _n in start..end {
         if CUT <= len {
             return len;
         }
         len = put_cut(out, len, body::record_at(body, at));
         at = body::behind(body, at);
-        n += 1;
     }
     len
 }

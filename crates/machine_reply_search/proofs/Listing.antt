@@ -1,4 +1,4 @@
--- The reply of a search, as it is written, and its length. Read specs/Found.antt before. Exports `listed-turn` and `listed_end` for the loop,
+-- The reply of a search, as it is written, and its length. Read specs/Found.antt before. Exports `listed-turn` for the loop,
 -- `reply-whole`, `reply-length`, `reply_accepted`, `reply-refused`, `found_bound`.
 use Prim.Native.Nat.{ℕ, ◌+◌, ◌*◌, ◌≤◌, ◌<◌}
 use mathlib.Core.Path.{◌≡◌, refl, sym, ap, ap₂, ◌∙◌}
@@ -7,7 +7,7 @@ use mathlib.Core.List.{List, [], ◌∷◌, ◌++◌, append_assoc}
 use native.Mathlib.Omega.{arith}
 use native.Mathlib.Numerals.{add-one}
 use lib.ListN.{length, get_or, take, length-append}
-use lib.Seq.{sets, length-sets, take-suc, take_all, length-take-le}
+use lib.Seq.{sets, length-sets, take-suc, length-take-le}
 use lib.Dec.{lit≤, leb}
 use borrow.Author.Tests.{le-leb, lt-leb}
 use Rattle.base.specs.Bytes.{put}
@@ -45,9 +45,6 @@ listed-turn out now last at ns i h r e p =
     ∙ ap₂ (λ (l : List ℕ) (x : ℕ). sets l (at + x) b) e (sym k)
     ∙ sym (sets-append out at A b)
     ∙ ap (sets out at) (sym (ap (λ (x : ℕ). listed (take x ns)) (add-one i) ∙ ap listed (take-suc ns i 0 h) ∙ listed_snoc (take i ns) (get_or ns i 0)))
-
-pub listed_end : (out now : List ℕ) (at : ℕ) (ns : List ℕ) (i : ℕ) → length ns ≤ i → now ≡ sets out at (listed (take i ns)) → now ≡ sets out at (listed ns)
-listed_end out now at ns i h e = e ∙ ap (λ (l : List ℕ). sets out at (listed l)) (take_all i ns h)
 
 -- ---- the length of the whole
 

@@ -9,7 +9,6 @@ ghost use Rattle.store_records.specs.Body.{records};
 ghost use Rattle.machine_reply_search.specs.Found.{hits, kept, listed, reply};
 ghost use Rattle.machine_reply_search.specs.Loops.{found_length};
 
-use base::natural::min;
 use store_records::body;
 
 // The most records of a file, and so the most numbers.
@@ -22,21 +21,28 @@ pub struct Hits {
     pub numbers: [u8; 254],
 }
 
+impl Hits {
+    // These n.
+    fn numbers(&self) -> &[u8]
+        ensures { result.now ≡ take self.now.n self.now.numbers }
+    {
+        base::part(&self.numbers, 0, self.n)
+    }
+}
+
 // The numbers of the first 254 records that match, ascending; only the first of them where one is set.
 pub fn search(body: &[u8], offset: usize, number: usize, text: &[u8], one: bool) -> Hits
     ensures { (take result.n result.numbers ≡ hits (take 254 (records body.now)) offset number text.now one) × (result.n ≡ length (hits (take 254 (records body.now)) offset number text.now one)) × (result.numbers ≡ kept (hits (take 254 (records body.now)) offset number text.now one)) }
 {
-    let end = min(body::count(body), MOST);
+    let end = body::count(body).min(MOST);
     let mut numbers = [0u8; 254];
     let mut n = 0;
     let mut at = 2;
-    let mut i = 0;
-    while i < end {
+    for i in 0..end {
         let found = machine_window::matches(body::record_at(body, at), offset, number, text);
         at = body::behind(body, at);
-        i += 1;
         if found {
-            numbers[n] = i as u8;
+            numbers[n] = (i + 1) as u8;
             n += 1;
             if one {
                 return Hits { n, numbers };
@@ -66,11 +72,8 @@ fn put_numbers(out: &mut [u8], at: usize, numbers: &[u8])
     requires { at + 3 * length numbers.now ≤ length out.old }
     ensures { out.new ≡ sets out.old at (listed numbers.now) }
 {
-    let mut k = 0;
-    while k < numbers.len() {
-        let object = [0x02, 0x01, numbers[k]];
-        base::put(out, at + 3 * k, &object);
-        k += 1;
+    for (k, number) in numbers.iter().enumerate() {
+        base::put(out, at + 3 * k, &[0x02, 0x01, *number]);
     }
 }
 
@@ -94,51 +97,27 @@ fn put_reply(out: &mut [u8], file: &[u8], numbers: &[u8]) -> usize
     len
 }
 
-// The same for the first n of an array of numbers.
-fn put_first(out: &mut [u8], file: &[u8], n: usize, numbers: [u8; 254]) -> usize
-    ensures { (result ≡ put_end out.old 0 (reply file.now (take n numbers))) × (out.new ≡ put out.old 0 (reply file.now (take n numbers))) }
-{
-    put_reply(out, file, base::part(&numbers, 0, n))
-}
-
 // Stores the reply for a file reference and what a search found at the start of out, where there is room for all of it; nothing for a
 // reference above 127 bytes. Answers its length.
 pub fn put_found(out: &mut [u8], file: &[u8], h: Hits) -> usize
     ensures { (result ≡ put_end out.old 0 (reply file.now (take h.n h.numbers))) × (out.new ≡ put out.old 0 (reply file.now (take h.n h.numbers))) }
 {
-    let numbers = h.numbers;
-    put_first(out, file, h.n, numbers)
-}
-
-// Whether the reply for a file reference and the first n of an array of numbers has at most ne bytes.
-fn first_fits(file: &[u8], n: usize, numbers: [u8; 254], ne: usize) -> bool
-    ensures { result ≡ leb (length (reply file.now (take n numbers))) ne }
-{
-    if 127 < file.len() {
-        return true;
-    }
-    found_length(file.len(), min(n, MOST)) <= ne
+    put_reply(out, file, h.numbers())
 }
 
 // Whether the reply for a file reference and what a search found has at most ne bytes.
 pub fn reply_fits(file: &[u8], h: Hits, ne: usize) -> bool
     ensures { result ≡ leb (length (reply file.now (take h.n h.numbers))) ne }
 {
-    let numbers = h.numbers;
-    first_fits(file, h.n, numbers, ne)
-}
-
-// The first of n numbers, or 0 where there is none.
-fn first_of(n: usize, numbers: [u8; 254]) -> usize
-    ensures { result ≡ get_or (take n numbers) 0 0 }
-{
-    base::byte(base::part(&numbers, 0, n), 0)
+    if 127 < file.len() {
+        return true;
+    }
+    found_length(file.len(), h.numbers().len()) <= ne
 }
 
 // The number of the first match, which becomes the current record; 0 where nothing was found.
 pub fn first(h: Hits) -> usize
     ensures { result ≡ get_or (take h.n h.numbers) 0 0 }
 {
-    let numbers = h.numbers;
-    first_of(h.n, numbers)
+    base::byte(h.numbers(), 0)
 }

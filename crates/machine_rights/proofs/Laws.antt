@@ -9,7 +9,7 @@ use native.Mathlib.Omega.{arith}
 use native.Mathlib.Nat.{zero-div}
 use lib.ListN.{length, get_or, set, replicate, length-set}
 use lib.Dec.{ltb, eqb}
-use borrow.Author.Tests.{le-leb, ltb-false, ne_eqb, eqb-true}
+use borrow.Author.Tests.{le-leb, ltb-false, eq-eqb, ne_eqb, eqb-true}
 use Rattle.base.specs.Choice.{if_else, all_of}
 use Rattle.base.proofs.Cases.{if_else_ind, all_of_facts as held-tests}
 use Rattle.base.specs.Bytes.{same_bytes}
@@ -18,12 +18,13 @@ use Rattle.base.proofs.Parts.{length_part}
 use Rattle.machine_rights.specs.declared.Rights.{Rights}
 use Rattle.machine_rights.specs.Rights.{bit, flagged, biometrics_byte, may_records, biometrics_bit, may_biometrics}
 use Rattle.machine_rights.specs.Chain.{certificate, joined_bytes, joined, cleared_bytes, cleared, no_rights, effective, held, same, is_cleared}
-use Rattle.machine_rights.proofs.Elements.{same_rest}
 
 -- ---- the same
 
 pub same_self : (r : Rights) → same r r ≡ true
-same_self r = same_rest r r refl refl refl ∙ same_refl r.biometrics
+unfolding same all_of
+same_self r =
+    simp (eq-eqb r.flags r.flags refl, eq-eqb r.travel r.travel refl, eq-eqb r.visa r.visa refl, same_refl r.biometrics)
 
 pub same-is : (a b : Rights) → same a b ≡ true → a ≡ b
 unfolding same

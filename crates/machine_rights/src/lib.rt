@@ -6,7 +6,7 @@ ghost use Rattle.std.specs.Prelude.{◌≡◌, true, false, ◌+◌, ◌-◌, �
 ghost use Rattle.base.specs.Choice.{if_else};
 ghost use Rattle.base.specs.Bytes.{part};
 ghost use Rattle.machine_rights.specs.Rights.{bit, flagged, record_bit, may_records, biometrics_bit, may_biometrics};
-ghost use Rattle.machine_rights.specs.Chain.{certificate, joined_bytes, joined, cleared_bytes, cleared, no_rights, held, effective, same, is_cleared};
+ghost use Rattle.machine_rights.specs.Chain.{certificate, joined_bytes, joined, cleared_bytes, cleared, held, effective, is_cleared};
 
 const TRAVEL: usize = 1;
 
@@ -15,7 +15,7 @@ const VISA: usize = 2;
 const BIOMETRICS: usize = 3;
 
 // What one certificate holds, and what a chain of three comes to. [B1]
-#[derive(Clone, Copy)]
+#[derive(Clone, Copy, PartialEq, Eq)]
 pub struct Rights {
     pub flags: u8,
     pub travel: u8,
@@ -23,7 +23,16 @@ pub struct Rights {
     pub biometrics: [u8; 17],
 }
 
+// No flag and no right.
+const NONE: Rights = Rights {
+    flags: 0,
+    travel: 0,
+    visa: 0,
+    biometrics: [0; 17],
+};
+
 // Bit b of a byte, b1 the lowest.
+#[tactic(auto, unfolding(crate::specs::Rights::bit))]
 fn bit(x: u8, b: usize) -> bool
     requires { (1 ≤ b) × (b ≤ 8) }
     ensures { result ≡ bit x b }
@@ -37,15 +46,12 @@ fn seventeen(s: &[u8], at: usize) -> [u8; 17]
     ensures { result ≡ part s.now at 17 }
 {
     let mut z = [0; 17];
-    let mut i = 0;
-    while i < 17 {
-        z[i] = s[at + i];
-        i += 1;
-    }
+    z.copy_from_slice(&s[at..at + 17]);
     z
 }
 
 // Certificate k of the three, counted from 0.
+#[tactic(auto, unfolding(crate::specs::Chain::certificate))]
 fn certificate(chain: &[u8], k: usize) -> Rights
     requires { (20 * k + 20 ≤ length chain.now) × (k < 3) }
     ensures { result ≡ certificate chain.now k }
@@ -64,25 +70,22 @@ fn join_bytes(x: [u8; 17], y: [u8; 17]) -> [u8; 17]
     ensures { result ≡ joined_bytes x y }
 {
     let mut z = [0; 17];
-    let mut i = 0;
-    while i < 17 {
+    for i in 0..17 {
         z[i] = x[i] & y[i];
-        i += 1;
     }
     z
 }
 
 // The bitwise and of two certificates, flags included.
+#[tactic(auto, unfolding(crate::specs::Chain::joined))]
 fn join(a: Rights, b: Rights) -> Rights
     ensures { result ≡ joined a b }
 {
-    let x = a.biometrics;
-    let y = b.biometrics;
     Rights {
         flags: a.flags & b.flags,
         travel: a.travel & b.travel,
         visa: a.visa & b.visa,
-        biometrics: join_bytes(x, y),
+        biometrics: join_bytes(a.biometrics, b.biometrics),
     }
 }
 
@@ -90,13 +93,11 @@ fn join(a: Rights, b: Rights) -> Rights
 fn under(flag: bool, x: u8) -> u8
     ensures { result ≡ if_else flag x 0 }
 {
-    if flag {
-        return x;
-    }
-    0
+    if flag { x } else { 0 }
 }
 
 // The bytes of biometrics, likewise; of the first b1 and b2 are used.
+#[tactic(auto, unfolding(crate::specs::Chain::cleared_bytes))]
 fn clear_bytes(flag: bool, x: [u8; 17]) -> [u8; 17]
     ensures { result ≡ cleared_bytes flag x }
 {
@@ -109,45 +110,36 @@ fn clear_bytes(flag: bool, x: [u8; 17]) -> [u8; 17]
 }
 
 // RFU and ignored bits cleared, bytes of an application without its flag set to zero.
+#[tactic(auto, unfolding(crate::specs::Chain::cleared))]
 fn clear(r: Rights) -> Rights
     ensures { result ≡ cleared r }
 {
-    let x = r.biometrics;
     Rights {
         flags: r.flags % 8,
         travel: under(bit(r.flags, TRAVEL), r.travel % 16),
         visa: under(bit(r.flags, VISA), r.visa % 16),
-        biometrics: clear_bytes(bit(r.flags, BIOMETRICS), x),
-    }
-}
-
-fn none() -> Rights
-    ensures { result ≡ no_rights }
-{
-    Rights {
-        flags: 0,
-        travel: 0,
-        visa: 0,
-        biometrics: [0; 17],
+        biometrics: clear_bytes(bit(r.flags, BIOMETRICS), r.biometrics),
     }
 }
 
 // The rights that 20 bytes hold, as a certificate does; none where there are fewer bytes.
+#[tactic(auto, unfolding(crate::specs::Chain::no_rights, crate::specs::Chain::held))]
 pub fn held(bytes: &[u8]) -> Rights
     ensures { result ≡ held bytes.now }
 {
     if bytes.len() < 20 {
-        return none();
+        return NONE;
     }
     certificate(bytes, 0)
 }
 
 // The effective rights of a chain of three certificates of 20 bytes; those of 60 zero bytes where there are not 60 bytes.
+#[tactic(auto, unfolding(crate::specs::Chain::no_rights, crate::specs::Chain::effective))]
 pub fn effective(certificates: &[u8]) -> Rights
     ensures { result ≡ effective certificates.now }
 {
     if certificates.len() != 60 {
-        return none();
+        return NONE;
     }
     let first = certificate(certificates, 0);
     let second = certificate(certificates, 1);
@@ -155,57 +147,32 @@ pub fn effective(certificates: &[u8]) -> Rights
     clear(join(join(first, second), third))
 }
 
-fn same(a: Rights, b: Rights) -> bool
-    ensures { result ≡ same a b }
-{
-    let x = a.biometrics;
-    let y = b.biometrics;
-    if a.flags != b.flags {
-        return false;
-    }
-    if a.travel != b.travel {
-        return false;
-    }
-    if a.visa != b.visa {
-        return false;
-    }
-    base::same_bytes(&x, &y)
-}
-
 // Whether rights are in cleared form.
 pub fn is_cleared(r: Rights) -> bool
     ensures { result ≡ is_cleared r }
 {
-    same(clear(r), r)
+    clear(r) == r
 }
 
 // Whether the flag of an application is set.
+#[tactic(auto, unfolding(crate::specs::Rights::flagged, base::specs::Choice::all_of))]
 pub fn flag(r: Rights, application: usize) -> bool
     ensures { result ≡ flagged r application }
 {
-    if application < TRAVEL {
-        return false;
-    }
-    if BIOMETRICS < application {
-        return false;
-    }
-    bit(r.flags, application)
+    (TRAVEL..=BIOMETRICS).contains(&application) && bit(r.flags, application)
 }
 
 // Which bit of the travel or visa byte serves reading or appending records, or certificates.
+#[tactic(auto, unfolding(crate::specs::Rights::record_bit))]
 fn record_bit(certificates: bool, append: bool) -> usize
     ensures { (result ≡ record_bit certificates append) × (1 ≤ result) × (result ≤ 8) }
 {
-    if certificates {
-        if append {
-            return 4;
-        }
-        return 3;
+    match (certificates, append) {
+        (true, true) => 4,
+        (true, false) => 3,
+        (false, true) => 2,
+        (false, false) => 1,
     }
-    if append {
-        return 2;
-    }
-    1
 }
 
 // Byte k of the 17, counted from 1.
@@ -217,23 +184,18 @@ fn biometrics_byte(x: [u8; 17], k: usize) -> u8
 }
 
 // Whether records, or certificates, of an application may be read, or appended.
+#[tactic(auto, unfolding(crate::specs::Rights::may_records, crate::specs::Rights::biometrics_byte, crate::specs::Rights::record_bit, crate::specs::Rights::certificate_bit))]
 pub fn may_records(r: Rights, application: usize, certificates: bool, append: bool) -> bool
     ensures { result ≡ may_records r application certificates append }
 {
-    if application == TRAVEL {
-        return bit(r.travel, record_bit(certificates, append));
+    match application {
+        TRAVEL => bit(r.travel, record_bit(certificates, append)),
+        VISA => bit(r.visa, record_bit(certificates, append)),
+        BIOMETRICS => {
+            certificates && bit(biometrics_byte(r.biometrics, 1), record_bit(false, append))
+        }
+        _ => false,
     }
-    if application == VISA {
-        return bit(r.visa, record_bit(certificates, append));
-    }
-    if application != BIOMETRICS {
-        return false;
-    }
-    if !certificates {
-        return false;
-    }
-    let x = r.biometrics;
-    bit(biometrics_byte(x, 1), record_bit(false, append))
 }
 
 // A bit of the 17 biometrics bytes: its byte, and the bit of that byte, both counted from 1.
@@ -258,6 +220,7 @@ const ACTIVATED: usize = 1;
 
 // The bit that counts for Biometrics n in its state. Byte 1 is for certificates. Byte 2 has files 1 to 4, byte 3 files 5 to 8, and so on to
 // byte 17.
+#[tactic(auto, unfolding(crate::specs::Rights::file_bits, crate::specs::Rights::biometrics_bit))]
 fn biometrics_bit(n: usize, activated: bool) -> RightBit
     requires { (1 ≤ n) × (n ≤ 64) }
     ensures { result ≡ biometrics_bit n activated }
@@ -274,16 +237,13 @@ fn biometrics_bit(n: usize, activated: bool) -> RightBit
 }
 
 // Whether Biometrics n may be used in its state.
+#[tactic(auto, unfolding(crate::specs::Rights::may_biometrics, base::specs::Choice::all_of))]
 pub fn may_biometrics(r: Rights, n: usize, activated: bool) -> bool
     ensures { result ≡ may_biometrics r n activated }
 {
-    if n < 1 {
+    if n < 1 || 64 < n {
         return false;
     }
-    if 64 < n {
-        return false;
-    }
-    let x = r.biometrics;
     let b = biometrics_bit(n, activated);
-    bit(biometrics_byte(x, b.byte), b.bit)
+    bit(biometrics_byte(r.biometrics, b.byte), b.bit)
 }

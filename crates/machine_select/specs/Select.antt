@@ -1,10 +1,8 @@
 -- SELECT.
-use Rattle.std.specs.Prelude.{ℕ, Bool, ◌||◌, List, [], ◌∷◌, eqb}
+use Rattle.std.specs.Prelude.{ℕ, Bool, ◌||◌, List, [], ◌∷◌, eqb, Option, Some, None, Result, Ok, Err}
 use Rattle.base.specs.Choice.{if_else}
 use Rattle.store_image.specs.Image.{present}
 use Rattle.store_files.specs.Master.{aid_of}
-use Rattle.store_files.specs.declared.AidName.{AidName}
-use Rattle.store_files.specs.declared.AidName.TheVariants.{Application, OtherAid}
 use Rattle.machine_rights.specs.Rights.{flagged}
 use Rattle.machine_apdu.specs.Status.{wrong_parameters, wrong_length, file_not_found, not_permitted}
 use Rattle.machine_apdu.specs.declared.Frame.{Frame}
@@ -14,24 +12,25 @@ use Rattle.machine_session.specs.declared.Session.{Session}
 use Rattle.machine_session.specs.declared.Named.TheVariants.{Id}
 use Rattle.machine_action.specs.Tests.{lc_only, id_in, on_file}
 use Rattle.machine_action.specs.declared.Action.{Action}
-use Rattle.machine_action.specs.declared.Action.TheVariants.{Status, SelectApplication, SelectFile}
+use Rattle.machine_action.specs.declared.Action.TheVariants.{SelectApplication, SelectFile}
+use Rattle.store_files.specs.declared.File.{File}
 
 -- P1 04, by an AID: the application is present (step 7) and its flag is on (step 9) [L2] [L3]
-abbrev pub select_aid : List ℕ → Session → AidName → Action
-select_aid img s (Application a) =
-    in_order ((present img a, Status file_not_found) ∷ (flagged s.rights a, Status not_permitted) ∷ []) (SelectApplication a)
-select_aid img s OtherAid = Status file_not_found
+abbrev pub select_aid : List ℕ → Session → Option ℕ → Result Action ℕ
+select_aid img s (Some a) =
+    in_order ((present img a, Err file_not_found) ∷ (flagged s.rights a, Err not_permitted) ∷ []) (Ok (SelectApplication a))
+select_aid img s None = Err file_not_found
 
 -- P1 02, by an id in the selected application [L4]
-unfoldable pub select_file : List ℕ → Session → ℕ → Action
-select_file img s i = on_file (resolve_file img s (Id i)) SelectFile
+unfoldable pub select_file : List ℕ → Session → ℕ → Result Action ℕ
+select_file img s i = on_file (resolve_file img s (Id i)) (λ (f : File). Ok (SelectFile f))
 
 -- P1 00: the master file alone [L5]
-unfoldable pub select_master : ℕ → Action
-select_master i = if_else (eqb i 0x3F00) (SelectApplication 0) (Status file_not_found)
+unfoldable pub select_master : ℕ → Result Action ℕ
+select_master i = if_else (eqb i 0x3F00) (Ok (SelectApplication 0)) (Err file_not_found)
 
 -- steps 7 to 9, by P1 [L1]
-unfoldable pub select_by : List ℕ → Session → ℕ → List ℕ → Action
+unfoldable pub select_by : List ℕ → Session → ℕ → List ℕ → Result Action ℕ
 select_by img s p1 d =
     if_else (eqb p1 0x04) (select_aid img s (aid_of d)) (if_else (eqb p1 0x02) (select_file img s (id_in d)) (select_master (id_in d)))
 
@@ -48,14 +47,14 @@ abbrev pub select_p2 : ℕ → Bool
 select_p2 p2 = eqb p2 0x0C
 
 -- [L1] [O4] [O5]
-unfoldable pub select : List ℕ → Session → Frame → List ℕ → Action
+unfoldable pub select : List ℕ → Session → Frame → List ℕ → Result Action ℕ
 select img s f d =
     in_order
     -- step 4
-    ((select_p2 f.header.p2, Status wrong_parameters)
-    ∷ (one_of_three f.header.p1, Status wrong_parameters)
+    ((select_p2 f.header.p2, Err wrong_parameters)
+    ∷ (one_of_three f.header.p1, Err wrong_parameters)
     -- step 5
-    ∷ (lc_only f, Status wrong_length)
-    ∷ (length_fits f.header.p1 f.lc, Status wrong_length)
+    ∷ (lc_only f, Err wrong_length)
+    ∷ (length_fits f.header.p1 f.lc, Err wrong_length)
     ∷ [])
     (select_by img s f.header.p1 d)

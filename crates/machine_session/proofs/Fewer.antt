@@ -24,12 +24,7 @@ use Rattle.machine_session.specs.declared.Named.{Named}
 use Rattle.machine_session.specs.declared.Named.TheVariants.{Current, Short, Id}
 use Rattle.machine_session.specs.declared.Access.{Access}
 use Rattle.machine_session.specs.declared.Access.TheVariants.{Read}
-use Rattle.machine_session.specs.declared.Meant.{Meant}
-use Rattle.machine_session.specs.declared.Meant.TheVariants.{NotMeant, TheFile}
-use Rattle.machine_session.specs.declared.ResolvedRecord.TheVariants.{RecordStop, RecordAt}
-use Rattle.machine_session.specs.declared.ResolvedTransparent.TheVariants.{TransparentStop, TransparentAt}
-use Rattle.machine_session.specs.declared.ResolvedBiometrics.TheVariants.{BiometricsStop, BiometricsAt}
-use Rattle.machine_session.specs.declared.ResolvedFile.TheVariants.{FileStop, FileAt}
+use Rattle.std.specs.Prelude.{Result, Ok, Err}
 
 -- ---- the same answer, or the one that stops
 
@@ -99,48 +94,48 @@ module _ (img : List ℕ) (s s' : Session) (h : Weaker s s') where
   may_inspect-fewer (TransparentFile t) = may_read-fewer t
 
   pub resolve_record_fewer : (x : Access) (named : Named)
-      → SameOrStop (RecordStop not_permitted) (resolve_record img s x named) (resolve_record img s' x named)
+      → SameOrStop (Err not_permitted) (resolve_record img s x named) (resolve_record img s' x named)
   unfolding resolve_record
   resolve_record_fewer x named = rw (meant-same named) (go (file_meant img s named))
     where
-      go : (m : Meant) → SameOrStop (RecordStop not_permitted) (record_by s x m) (record_by s' x m)
-      go (NotMeant w) = inl refl
-      go (TheFile (TransparentFile t)) = inl refl
-      go (TheFile (RecordFile r)) = same_or_stop_right (RecordStop not_permitted) (RecordAt r) (may_record s x r) (may_record s' x r) (may_record-fewer x r)
+      go : (m : Result File ℕ) → SameOrStop (Err not_permitted) (record_by s x m) (record_by s' x m)
+      go (Err w) = inl refl
+      go (Ok (TransparentFile t)) = inl refl
+      go (Ok (RecordFile r)) = same_or_stop_right (Err not_permitted) (Ok r) (may_record s x r) (may_record s' x r) (may_record-fewer x r)
 
   pub resolve_transparent_fewer : (named : Named)
-      → SameOrStop (TransparentStop not_permitted) (resolve_transparent img s named) (resolve_transparent img s' named)
+      → SameOrStop (Err not_permitted) (resolve_transparent img s named) (resolve_transparent img s' named)
   unfolding resolve_transparent
   resolve_transparent_fewer named = rw (meant-same named) (go (file_meant img s named))
     where
-      go : (m : Meant) → SameOrStop (TransparentStop not_permitted) (transparent_by img s m) (transparent_by img s' m)
-      go (NotMeant w) = inl refl
-      go (TheFile (RecordFile r)) = inl refl
-      go (TheFile (TransparentFile t)) = same_or_stop_right (TransparentStop not_permitted) (TransparentAt t) (may_read img s t) (may_read img s' t) (may_read-fewer t)
+      go : (m : Result File ℕ) → SameOrStop (Err not_permitted) (transparent_by img s m) (transparent_by img s' m)
+      go (Err w) = inl refl
+      go (Ok (RecordFile r)) = inl refl
+      go (Ok (TransparentFile t)) = same_or_stop_right (Err not_permitted) (Ok t) (may_read img s t) (may_read img s' t) (may_read-fewer t)
 
   pub resolve_biometrics_fewer : (named : Named)
-      → SameOrStop (BiometricsStop not_permitted) (resolve_biometrics img s named) (resolve_biometrics img s' named)
+      → SameOrStop (Err not_permitted) (resolve_biometrics img s named) (resolve_biometrics img s' named)
   unfolding resolve_biometrics
   resolve_biometrics_fewer named = rw (meant-same named) (go (file_meant img s named))
     where
-      of : (t : Transparent) → SameOrStop (BiometricsStop not_permitted) (writable img s t) (writable img s' t)
+      of : (t : Transparent) → SameOrStop (Err not_permitted) (writable img s t) (writable img s' t)
       of Info = inl (unfold writable in refl)
       of Dir = inl (unfold writable in refl)
       of (Biometrics n) =
           unfold writable in_order in
           same_or_stop_both (not (activated img n))
-          (same_or_stop_right (BiometricsStop not_permitted) (BiometricsAt n) (may_biometrics s.rights n false) (may_biometrics s'.rights n false) (g.files n false))
+          (same_or_stop_right (Err not_permitted) (Ok n) (may_biometrics s.rights n false) (may_biometrics s'.rights n false) (g.files n false))
           (inl refl)
 
-      go : (m : Meant) → SameOrStop (BiometricsStop not_permitted) (biometrics_by img s m) (biometrics_by img s' m)
-      go (NotMeant w) = inl refl
-      go (TheFile (RecordFile r)) = inl refl
-      go (TheFile (TransparentFile t)) = of t
+      go : (m : Result File ℕ) → SameOrStop (Err not_permitted) (biometrics_by img s m) (biometrics_by img s' m)
+      go (Err w) = inl refl
+      go (Ok (RecordFile r)) = inl refl
+      go (Ok (TransparentFile t)) = of t
 
-  pub resolve_file_fewer : (named : Named) → SameOrStop (FileStop not_permitted) (resolve_file img s named) (resolve_file img s' named)
+  pub resolve_file_fewer : (named : Named) → SameOrStop (Err not_permitted) (resolve_file img s named) (resolve_file img s' named)
   unfolding resolve_file
   resolve_file_fewer named = rw (meant-same named) (go (file_meant img s named))
     where
-      go : (m : Meant) → SameOrStop (FileStop not_permitted) (file_by img s m) (file_by img s' m)
-      go (NotMeant w) = inl refl
-      go (TheFile f) = same_or_stop_right (FileStop not_permitted) (FileAt f) (may_inspect img s f) (may_inspect img s' f) (may_inspect-fewer f)
+      go : (m : Result File ℕ) → SameOrStop (Err not_permitted) (file_by img s m) (file_by img s' m)
+      go (Err w) = inl refl
+      go (Ok f) = same_or_stop_right (Err not_permitted) (Ok f) (may_inspect img s f) (may_inspect img s' f) (may_inspect-fewer f)

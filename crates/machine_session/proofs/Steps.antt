@@ -14,8 +14,6 @@ use Rattle.store_files.specs.declared.Transparent.{Transparent}
 use Rattle.store_files.specs.declared.Transparent.TheVariants.{Info, Dir, Biometrics}
 use Rattle.store_files.specs.declared.File.{File}
 use Rattle.store_files.specs.declared.File.TheVariants.{RecordFile, TransparentFile}
-use Rattle.store_files.specs.declared.Lookup.{Lookup}
-use Rattle.store_files.specs.declared.Lookup.TheVariants.{Known, NoFile}
 use Rattle.store_files.proofs.Meant.{FileOk, LookupOk, Own, by_id_well_formed, by_short-well_formed, by_id_own, by_short_own}
 use Rattle.machine_session.specs.Order.{in_order}
 use Rattle.machine_session.specs.Resolve.{meant_by, meant_at, file_meant, may_record, activated, may_read, may_inspect, record_by, resolve_record, transparent_by, resolve_transparent, writable, biometrics_by, resolve_biometrics, file_by, resolve_file}
@@ -25,16 +23,7 @@ use Rattle.machine_session.specs.declared.Session.{Session}
 use Rattle.machine_session.specs.declared.Named.{Named}
 use Rattle.machine_session.specs.declared.Named.TheVariants.{Current, Short, Id}
 use Rattle.machine_session.specs.declared.Access.{Access}
-use Rattle.machine_session.specs.declared.Meant.{Meant}
-use Rattle.machine_session.specs.declared.Meant.TheVariants.{NotMeant, TheFile}
-use Rattle.machine_session.specs.declared.ResolvedRecord.{ResolvedRecord}
-use Rattle.machine_session.specs.declared.ResolvedRecord.TheVariants.{RecordStop, RecordAt}
-use Rattle.machine_session.specs.declared.ResolvedTransparent.{ResolvedTransparent}
-use Rattle.machine_session.specs.declared.ResolvedTransparent.TheVariants.{TransparentStop, TransparentAt}
-use Rattle.machine_session.specs.declared.ResolvedBiometrics.{ResolvedBiometrics}
-use Rattle.machine_session.specs.declared.ResolvedBiometrics.TheVariants.{BiometricsStop, BiometricsAt}
-use Rattle.machine_session.specs.declared.ResolvedFile.{ResolvedFile}
-use Rattle.machine_session.specs.declared.ResolvedFile.TheVariants.{FileStop, FileAt}
+use Rattle.std.specs.Prelude.{Option, Some, None, Result, Ok, Err}
 
 -- ---- tests in order
 
@@ -59,11 +48,11 @@ in_order-each P (c ∷ cs) a e h = if_else_ind P c.0 (λ t. in_order-each P cs a
 -- the file stands in the image and is what its own id means
 pub record Resolved (img : List ℕ) (s : Session) (f : File) : Type 0 where
   pub ok : FileOk img f
-  pub own : by_id img s.application (id_of f) ≡ Known f
+  pub own : by_id img s.application (id_of f) ≡ Some f
 
-abbrev pub MeantOk : List ℕ → Session → Meant → Type 0
-MeantOk img s (NotMeant w) = ltb w 0x9000 ≡ true
-MeantOk img s (TheFile f) = Resolved img s f
+abbrev pub MeantOk : List ℕ → Session → Result File ℕ → Type 0
+MeantOk img s (Err w) = ltb w 0x9000 ≡ true
+MeantOk img s (Ok f) = Resolved img s f
 
 -- and the command may go on with it
 pub record RecordResolved (img : List ℕ) (s : Session) (x : Access) (r : Rule) : Type 0 where
@@ -83,27 +72,27 @@ pub record FileResolved (img : List ℕ) (s : Session) (f : File) : Type 0 where
   pub file : Resolved img s f
   pub allowed : may_inspect img s f ≡ true
 
-abbrev pub RecordOk : List ℕ → Session → Access → ResolvedRecord → Type 0
-RecordOk img s x (RecordStop w) = ltb w 0x9000 ≡ true
-RecordOk img s x (RecordAt r) = RecordResolved img s x r
+abbrev pub RecordOk : List ℕ → Session → Access → Result Rule ℕ → Type 0
+RecordOk img s x (Err w) = ltb w 0x9000 ≡ true
+RecordOk img s x (Ok r) = RecordResolved img s x r
 
-abbrev pub TransparentOk : List ℕ → Session → ResolvedTransparent → Type 0
-TransparentOk img s (TransparentStop w) = ltb w 0x9000 ≡ true
-TransparentOk img s (TransparentAt t) = TransparentResolved img s t
+abbrev pub TransparentOk : List ℕ → Session → Result Transparent ℕ → Type 0
+TransparentOk img s (Err w) = ltb w 0x9000 ≡ true
+TransparentOk img s (Ok t) = TransparentResolved img s t
 
-abbrev pub BiometricsOk : List ℕ → Session → ResolvedBiometrics → Type 0
-BiometricsOk img s (BiometricsStop w) = ltb w 0x9000 ≡ true
-BiometricsOk img s (BiometricsAt n) = BiometricsResolved img s n
+abbrev pub BiometricsOk : List ℕ → Session → Result ℕ ℕ → Type 0
+BiometricsOk img s (Err w) = ltb w 0x9000 ≡ true
+BiometricsOk img s (Ok n) = BiometricsResolved img s n
 
-abbrev pub AnyOk : List ℕ → Session → ResolvedFile → Type 0
-AnyOk img s (FileStop w) = ltb w 0x9000 ≡ true
-AnyOk img s (FileAt f) = FileResolved img s f
+abbrev pub AnyOk : List ℕ → Session → Result File ℕ → Type 0
+AnyOk img s (Err w) = ltb w 0x9000 ≡ true
+AnyOk img s (Ok f) = FileResolved img s f
 
 module _ (img : List ℕ) (s : Session) where
   -- step 7
-  meant-well_formed : (l : Lookup) → LookupOk img l → Own img s.application l → MeantOk img s (meant_by l)
-  meant-well_formed (Known f) o w = record { ok = o; own = w }
-  meant-well_formed NoFile o w = refl
+  meant-well_formed : (l : Option File) → LookupOk img l → Own img s.application l → MeantOk img s (meant_by l)
+  meant-well_formed (Some f) o w = record { ok = o; own = w }
+  meant-well_formed None o w = refl
 
   id-well_formed : (i : ℕ) → MeantOk img s (meant_by (by_id img s.application i))
   id-well_formed i = meant-well_formed (by_id img s.application i) (by_id_well_formed img s.application i) (by_id_own img s.application i)
@@ -125,20 +114,20 @@ module _ (img : List ℕ) (s : Session) where
   unfolding resolve_record
   resolve_record-well_formed x named = go (file_meant img s named) (file_meant-well_formed named)
     where
-      go : (m : Meant) → MeantOk img s m → RecordOk img s x (record_by s x m)
-      go (NotMeant w) o = o
-      go (TheFile (TransparentFile t)) o = refl
-      go (TheFile (RecordFile r)) o =
+      go : (m : Result File ℕ) → MeantOk img s m → RecordOk img s x (record_by s x m)
+      go (Err w) o = o
+      go (Ok (TransparentFile t)) o = refl
+      go (Ok (RecordFile r)) o =
           if_else_ind (RecordOk img s x) (may_record s x r) (λ h. record { file = o; allowed = h }) (λ h. refl)
 
   pub resolve_transparent-well_formed : (named : Named) → TransparentOk img s (resolve_transparent img s named)
   unfolding resolve_transparent
   resolve_transparent-well_formed named = go (file_meant img s named) (file_meant-well_formed named)
     where
-      go : (m : Meant) → MeantOk img s m → TransparentOk img s (transparent_by img s m)
-      go (NotMeant w) o = o
-      go (TheFile (RecordFile r)) o = refl
-      go (TheFile (TransparentFile t)) o =
+      go : (m : Result File ℕ) → MeantOk img s m → TransparentOk img s (transparent_by img s m)
+      go (Err w) o = o
+      go (Ok (RecordFile r)) o = refl
+      go (Ok (TransparentFile t)) o =
           if_else_ind (TransparentOk img s) (may_read img s t) (λ h. record { file = o; allowed = h }) (λ h. refl)
 
   pub resolve_biometrics-well_formed : (named : Named) → BiometricsOk img s (resolve_biometrics img s named)
@@ -152,15 +141,15 @@ module _ (img : List ℕ) (s : Session) where
           unfold writable in
           in_order-each (BiometricsOk img s) _ _ (refl, (refl, tt)) (λ p. record { file = o; not-activated = p.0; allowed = p.1.0 })
 
-      go : (m : Meant) → MeantOk img s m → BiometricsOk img s (biometrics_by img s m)
-      go (NotMeant w) o = o
-      go (TheFile (RecordFile r)) o = refl
-      go (TheFile (TransparentFile t)) o = of-transparent t o
+      go : (m : Result File ℕ) → MeantOk img s m → BiometricsOk img s (biometrics_by img s m)
+      go (Err w) o = o
+      go (Ok (RecordFile r)) o = refl
+      go (Ok (TransparentFile t)) o = of-transparent t o
 
   pub resolve_file-well_formed : (named : Named) → AnyOk img s (resolve_file img s named)
   unfolding resolve_file
   resolve_file-well_formed named = go (file_meant img s named) (file_meant-well_formed named)
     where
-      go : (m : Meant) → MeantOk img s m → AnyOk img s (file_by img s m)
-      go (NotMeant w) o = o
-      go (TheFile f) o = if_else_ind (AnyOk img s) (may_inspect img s f) (λ h. record { file = o; allowed = h }) (λ h. refl)
+      go : (m : Result File ℕ) → MeantOk img s m → AnyOk img s (file_by img s m)
+      go (Err w) o = o
+      go (Ok f) o = if_else_ind (AnyOk img s) (may_inspect img s f) (λ h. record { file = o; allowed = h }) (λ h. refl)

@@ -1,5 +1,5 @@
 -- A session: its rights, the application selected, the current place. The master file is application 0.
-use Rattle.std.specs.Prelude.{ℕ, Bool, true, false, ◌||◌, List, [], ◌∷◌, leb, eqb}
+use Rattle.std.specs.Prelude.{ℕ, Bool, true, false, ◌||◌, List, [], ◌∷◌, leb, eqb, Option, Some, None}
 use Rattle.base.specs.Choice.{if_else, all_of}
 use Rattle.store_records.specs.Body.{count}
 use Rattle.store_image.specs.Image.{present, body}
@@ -8,12 +8,8 @@ use Rattle.machine_rights.specs.Chain.{effective, is_cleared}
 use Rattle.store_files.specs.Files.{by_id, id_of}
 use Rattle.store_files.specs.declared.File.{File}
 use Rattle.store_files.specs.declared.File.TheVariants.{RecordFile, TransparentFile}
-use Rattle.store_files.specs.declared.Lookup.{Lookup}
-use Rattle.store_files.specs.declared.Lookup.TheVariants.{Known, NoFile}
 use Rattle.machine_session.specs.declared.Place.{Place}
 use Rattle.machine_session.specs.declared.Place.TheVariants.{Nowhere, OnFile, OnRecord}
-use Rattle.machine_session.specs.declared.RecordNumber.{RecordNumber}
-use Rattle.machine_session.specs.declared.RecordNumber.TheVariants.{Number, NoNumber}
 use Rattle.machine_session.specs.declared.Session.{Session}
 
 -- the session that certificates open: the master file selected, no current file [S2]
@@ -57,13 +53,13 @@ unfoldable pub set_file : Session → File → Session
 set_file s f = if_else (is_current s.place (id_of f)) s (placed s (OnFile (id_of f)))
 
 -- the current record of the file with this id [S8]
-abbrev pub record_number_at : Place → ℕ → RecordNumber
-record_number_at Nowhere i = NoNumber
-record_number_at (OnFile j) i = NoNumber
-record_number_at (OnRecord j n) i = if_else (eqb j i) (Number n) NoNumber
+abbrev pub record_number_at : Place → ℕ → Option ℕ
+record_number_at Nowhere i = None
+record_number_at (OnFile j) i = None
+record_number_at (OnRecord j n) i = if_else (eqb j i) (Some n) None
 
 -- [S8]
-unfoldable pub current_record : Session → Rule → RecordNumber
+unfoldable pub current_record : Session → Rule → Option ℕ
 current_record s r = record_number_at s.place r.id
 
 -- ---- whether a session fits an image
@@ -73,9 +69,9 @@ unfoldable pub application_fits : List ℕ → ℕ → Bool
 application_fits img a = eqb a 0 || present img a
 
 -- a look-up found a file [S4]
-abbrev pub is_known : Lookup → Bool
-is_known (Known f) = true
-is_known NoFile = false
+abbrev pub is_known : Option File → Bool
+is_known (Some f) = true
+is_known None = false
 
 -- record n is there: records are numbered from 1 [S5]
 abbrev pub is_record_of : List ℕ → Rule → ℕ → Bool
@@ -87,9 +83,9 @@ has_record img (RecordFile r) n = is_record_of img r n
 has_record img (TransparentFile t) n = false
 
 -- [S5]
-abbrev pub record_fits : List ℕ → Lookup → ℕ → Bool
-record_fits img (Known f) n = has_record img f n
-record_fits img NoFile n = false
+abbrev pub record_fits : List ℕ → Option File → ℕ → Bool
+record_fits img (Some f) n = has_record img f n
+record_fits img None n = false
 
 -- the current file is one of the selected application's, the current record one of the file's [S4]
 unfoldable pub place_fits : List ℕ → ℕ → Place → Bool

@@ -9,7 +9,7 @@ ghost use Rattle.machine_session.specs.Session.{opened, is_current, set_file, cu
 ghost use Rattle.machine_session.specs.Verdict.{verdict, open_verdict};
 
 use machine_rights::Rights;
-use store_files::{File, Lookup, Transparent};
+use store_files::{File, Transparent};
 use store_kinds::rules::Rule;
 use store_records::body;
 
@@ -37,19 +37,6 @@ pub enum Refusal {
     BadSession,
 }
 
-#[derive(Clone, Copy)]
-pub enum Verdict {
-    Accepted,
-    Refused(Refusal),
-}
-
-// The number of a record, where there is one.
-#[derive(Clone, Copy)]
-pub enum RecordNumber {
-    Number(usize),
-    NoNumber,
-}
-
 // How a command names a file: the current one, by its short id, by its id.
 #[derive(Clone, Copy)]
 pub enum Named {
@@ -65,39 +52,8 @@ pub enum Access {
     Append,
 }
 
-// The file that a command means, or the status word where it means none.
-#[derive(Clone, Copy)]
-pub enum Meant {
-    NotMeant(usize),
-    TheFile(File),
-}
-
-// What steps 7 to 9 answer: a status word, or the file that the command goes on with.
-#[derive(Clone, Copy)]
-pub enum ResolvedRecord {
-    RecordStop(usize),
-    RecordAt(Rule),
-}
-
-#[derive(Clone, Copy)]
-pub enum ResolvedTransparent {
-    TransparentStop(usize),
-    TransparentAt(Transparent),
-}
-
-#[derive(Clone, Copy)]
-pub enum ResolvedBiometrics {
-    BiometricsStop(usize),
-    BiometricsAt(u8),
-}
-
-#[derive(Clone, Copy)]
-pub enum ResolvedFile {
-    FileStop(usize),
-    FileAt(File),
-}
-
 // The session that certificates open.
+#[tactic(auto, unfolding(crate::specs::Session::opened))]
 pub fn open(certificates: &[u8]) -> Session
     ensures { result ≡ opened certificates.now }
 {
@@ -109,102 +65,85 @@ pub fn open(certificates: &[u8]) -> Session
 }
 
 // Whether an opening is accepted.
-pub fn open_verdict(certificates: &[u8]) -> Verdict
+#[tactic(auto, unfolding(crate::specs::Verdict::open_verdict))]
+pub fn open_verdict(certificates: &[u8]) -> Result<(), Refusal>
     ensures { result ≡ open_verdict certificates.now }
 {
-    if certificates.len() != 60 {
-        return Verdict::Refused(Refusal::BadRights);
+    if certificates.len() == 60 {
+        Ok(())
+    } else {
+        Err(Refusal::BadRights)
     }
-    Verdict::Accepted
 }
 
+#[tactic(auto, unfolding(crate::specs::Session::is_current))]
 fn is_current(p: Place, id: usize) -> bool
     ensures { result ≡ is_current p id }
 {
     match p {
         Place::Nowhere => false,
-        Place::OnFile(i) => i == id,
-        Place::OnRecord(i, _) => i == id,
+        Place::OnFile(i) | Place::OnRecord(i, _) => i == id,
     }
 }
 
 // The session with a file as the current one: another drops the current record, the same keeps it.
+#[tactic(auto, unfolding(crate::specs::Session::set_file))]
 pub fn set_file(s: Session, f: File) -> Session
     ensures { result ≡ set_file s f }
 {
-    let p = s.place;
     let id = store_files::id_of(f);
-    if is_current(p, id) {
+    if is_current(s.place, id) {
         return s;
     }
-    let rights = s.rights;
     Session {
-        rights,
-        application: s.application,
         place: Place::OnFile(id),
+        ..s
     }
 }
 
 // The current record of a record file.
-pub fn current_record(s: Session, r: Rule) -> RecordNumber
+#[tactic(auto, unfolding(crate::specs::Session::current_record))]
+pub fn current_record(s: Session, r: Rule) -> Option<usize>
     ensures { result ≡ current_record s r }
 {
-    let p = s.place;
-    match p {
-        Place::Nowhere => RecordNumber::NoNumber,
-        Place::OnFile(_) => RecordNumber::NoNumber,
-        Place::OnRecord(i, n) => {
-            if i == r.id {
-                return RecordNumber::Number(n);
-            }
-            RecordNumber::NoNumber
-        }
+    match s.place {
+        Place::OnRecord(i, n) if i == r.id => Some(n),
+        _ => None,
     }
 }
 
 // ---- whether a session fits an image
 
+#[tactic(auto, unfolding(crate::specs::Session::application_fits))]
 fn application_fits(image: &[u8], application: usize) -> bool
     ensures { result ≡ application_fits image.now application }
 {
-    if application == 0 {
-        return true;
-    }
-    store_image::present(image, application)
+    application == 0 || store_image::present(image, application)
 }
 
-fn is_known(l: Lookup) -> bool
+fn is_known(l: Option<File>) -> bool
     ensures { result ≡ is_known l }
 {
-    match l {
-        Lookup::Known(_) => true,
-        Lookup::NoFile => false,
-    }
+    l.is_some()
 }
 
+#[tactic(auto, unfolding(base::specs::Choice::all_of))]
 fn has_record(image: &[u8], f: File, n: usize) -> bool
     ensures { result ≡ has_record image.now f n }
 {
     match f {
-        File::RecordFile(r) => {
-            if n < 1 {
-                return false;
-            }
-            n <= body::count(store_image::body(image, r.kind))
-        }
+        File::RecordFile(r) => 1 <= n && n <= body::count(store_image::body(image, r.kind)),
         File::TransparentFile(_) => false,
     }
 }
 
-fn record_fits(image: &[u8], l: Lookup, n: usize) -> bool
+fn record_fits(image: &[u8], l: Option<File>, n: usize) -> bool
     ensures { result ≡ record_fits image.now l n }
 {
-    match l {
-        Lookup::Known(f) => has_record(image, f, n),
-        Lookup::NoFile => false,
-    }
+    l.is_some_and(|f| has_record(image, f, n))
 }
 
+#[tactic(auto, unfolding(crate::specs::Session::place_fits))]
 fn place_fits(image: &[u8], application: usize, p: Place) -> bool
     ensures { result ≡ place_fits image.now application p }
 {
@@ -216,32 +155,27 @@ fn place_fits(image: &[u8], application: usize, p: Place) -> bool
 }
 
 // Whether a session fits an image.
+#[tactic(auto, unfolding(crate::specs::Session::session_fits, base::specs::Choice::all_of))]
 pub fn session_fits(image: &[u8], s: Session) -> bool
     ensures { result ≡ session_fits image.now s }
 {
-    let rights = s.rights;
-    let p = s.place;
-    if !application_fits(image, s.application) {
-        return false;
-    }
-    if !place_fits(image, s.application, p) {
-        return false;
-    }
-    machine_rights::is_cleared(rights)
+    application_fits(image, s.application)
+        && place_fits(image, s.application, s.place)
+        && machine_rights::is_cleared(s.rights)
 }
 
 // Whether a command with a response buffer of n bytes is accepted, by whether its session fits the image.
-pub fn judge(image: &[u8], fits: bool, n: usize) -> Verdict
+#[tactic(auto, unfolding(crate::specs::Verdict::verdict))]
+pub fn judge(image: &[u8], fits: bool, n: usize) -> Result<(), Refusal>
     ensures { result ≡ verdict image.now fits n }
 {
     if n < 2050 {
-        return Verdict::Refused(Refusal::ShortBuffer);
+        Err(Refusal::ShortBuffer)
+    } else if !store_image::well_formed(image) {
+        Err(Refusal::BadImage)
+    } else if !fits {
+        Err(Refusal::BadSession)
+    } else {
+        Ok(())
     }
-    if !store_image::well_formed(image) {
-        return Verdict::Refused(Refusal::BadImage);
-    }
-    if fits {
-        return Verdict::Accepted;
-    }
-    Verdict::Refused(Refusal::BadSession)
 }

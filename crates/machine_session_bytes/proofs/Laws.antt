@@ -24,8 +24,6 @@ use Rattle.store_files.specs.declared.File.{File}
 use Rattle.store_files.specs.declared.File.TheVariants.{RecordFile, TransparentFile}
 use Rattle.store_files.specs.declared.Transparent.{Transparent}
 use Rattle.store_files.specs.declared.Transparent.TheVariants.{Info, Dir, Biometrics}
-use Rattle.store_files.specs.declared.Lookup.{Lookup}
-use Rattle.store_files.specs.declared.Lookup.TheVariants.{Known, NoFile}
 use Rattle.store_files.proofs.Meant.{TransparentOk, FileOk, LookupOk, Found, by_id_well_formed, by_id_id}
 use Rattle.machine_rights.specs.Chain.{certificate, held}
 use Rattle.machine_rights.specs.declared.Rights.{Rights}
@@ -34,6 +32,7 @@ use Rattle.machine_session.specs.declared.Place.{Place}
 use Rattle.machine_session.specs.declared.Place.TheVariants.{Nowhere, OnFile, OnRecord}
 use Rattle.machine_session.specs.declared.Session.{Session}
 use Rattle.machine_session_bytes.specs.Layout.{place_bytes, session_bytes, place_in, unused_zero, is_session, session_in}
+use Rattle.std.specs.Prelude.{Option, Some, None}
 
 -- ---- a session that 25 bytes can hold
 
@@ -191,9 +190,9 @@ module _ (img : List ℕ) where
   file-held : (a i : ℕ) → is_known (by_id img a i) ≡ true → i < 65536
   file-held a i e = go (by_id img a i) (by_id_well_formed img a i) (by_id_id img a i) e
     where
-      go : (l : Lookup) → LookupOk img l → Found (λ f. id_of f ≡ i) l → is_known l ≡ true → i < 65536
-      go NoFile o n k = false-true k
-      go (Known f) o n k = subst (λ (j : ℕ). j < 65536) n (id_of-small f o)
+      go : (l : Option File) → LookupOk img l → Found (λ f. id_of f ≡ i) l → is_known l ≡ true → i < 65536
+      go None o n k = false-true k
+      go (Some f) o n k = subst (λ (j : ℕ). j < 65536) n (id_of-small f o)
 
   module _ (o : well_formed img ≡ true) where
     record-held : (f : File) (n : ℕ) → FileOk img f → has_record img f n ≡ true → n < 256
@@ -203,9 +202,9 @@ module _ (img : List ℕ) where
         let m = body-count r.longest r.most (body img r.kind) (record_file img r.kind r o k.by_kind k.stands) in
         omega (arith, c, m, (rule_regular (Kind r.kind) r k.by_kind).many)
 
-    known-held : (l : Lookup) (n : ℕ) → LookupOk img l → record_fits img l n ≡ true → (is_known l ≡ true) × (n < 256)
-    known-held NoFile n k e = false-true e
-    known-held (Known f) n k e = (refl, record-held f n k e)
+    known-held : (l : Option File) (n : ℕ) → LookupOk img l → record_fits img l n ≡ true → (is_known l ≡ true) × (n < 256)
+    known-held None n k e = false-true e
+    known-held (Some f) n k e = (refl, record-held f n k e)
 
     place-held : (a : ℕ) (p : Place) → place_fits img a p ≡ true → PlaceHeld p
     unfolding place_fits

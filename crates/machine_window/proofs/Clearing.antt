@@ -1,6 +1,6 @@
 -- Places at which a string does not stand. Read before: specs/Loops.antt. Exports `two_tell` (two bytes that tell it) and the laws of
 -- `Clear`.
-use Prim.Native.Nat.{ℕ, ◌+◌, ◌≤◌, ◌<◌}
+use Prim.Native.Nat.{ℕ, ◌+◌, ◌<◌}
 use mathlib.Core.Path.{◌≡◌, sym, ap, subst, ◌∙◌}
 use mathlib.Core.Bool.{◌&&◌}
 use mathlib.Core.Logic.{⊎_elim}
@@ -8,9 +8,9 @@ use mathlib.Core.List.{List}
 use native.Mathlib.Omega.{arith}
 use native.Mathlib.Nat.{add-zero, eq-or-lt_of_le}
 use lib.ListN.{length, get_or}
-use lib.Dec.{ltb, eqb}
-use borrow.Author.Tests.{eq-eqb, eqb-true, ltb-true, ltb-false}
-use Rattle.base.proofs.Cases.{by_cases, false-true, and_left}
+use lib.Dec.{eqb}
+use borrow.Author.Tests.{eq-eqb, eqb-true}
+use Rattle.base.proofs.Cases.{false-true, and_left}
 use Rattle.machine_window.specs.Loops.{Stand, Likely, Clear}
 
 -- two bytes of a string tell
@@ -24,9 +24,6 @@ two_tell w t p y h = record {
 }
 
 module _ {w t : List ℕ} {from : ℕ} where
-  pub clear_none : {r : ℕ} → r ≤ from → Clear w t from r
-  clear_none h = record { none = λ k a b s. omega arith }
-
   pub clear_more : {m n : ℕ} → n ≡ m + 1 → Clear w t from m → (Stand w t m (length t) → ⊥) → Clear w t from n
   clear_more {m} h f g = record {
     none = λ k a b s. ⊎_elim
@@ -34,6 +31,3 @@ module _ {w t : List ℕ} {from : ℕ} where
         (λ z. f.none k a z s)
         (eq-or-lt_of_le {n = k} {m = m} (omega arith));
   }
-
-  pub clear_join : {m n : ℕ} → Clear w t from m → Clear w t m n → Clear w t from n
-  clear_join {m} f g = record { none = λ k a b s. by_cases (ltb k m) (λ z. f.none k a (ltb-true k m z) s) (λ z. g.none k (ltb-false k m z) b s) }

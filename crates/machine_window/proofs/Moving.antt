@@ -8,7 +8,7 @@ use mathlib.Core.Bool.{true, false}
 use mathlib.Core.List.{List, [], ◌∷◌}
 use native.Mathlib.Omega.{arith}
 use native.Mathlib.Nat.{add_assoc, add-zero, le_refl, eq-or-lt_of_le}
-use lib.ListN.{length, get_or, set, drop, replicate, get_or-replicate, get_or-append, length-drop}
+use lib.ListN.{length, get_or, set, drop, get_or-append, length-drop}
 use lib.Seq.{get_or-set_same, get_or-set_other, get_or-drop}
 use lib.Dec.{ltb}
 use borrow.Author.Count.{below_more}
@@ -58,20 +58,8 @@ least-one t q a b = record {
   least = λ d x y s. absurd (omega arith);
 }
 
-pub built_start : (t : List ℕ) (end : ℕ) → 1 ≤ end → Built t (replicate 930 1) end 1 0
-built_start t end h = record {
-  first = omega arith;
-  within = omega arith;
-  stands = λ i j. absurd (omega arith);
-  none = λ d x y b. absurd (omega arith);
-  filled = λ q a b. let e = get_or-replicate {A = ℕ} 930 q 1 0 (omega arith) in rw e (least-one t q a (omega arith));
-}
-
 pub built_least : (t table : List ℕ) (end p q : ℕ) → Built t table end p q → (q ≡ 0 → ⊥) → Least t q (get_or table q 0)
 built_least t table end p q b z = b.filled q (omega arith) (omega arith)
-
-pub fall_less : (t : List ℕ) (end p q s : ℕ) → Least t q s → p + q ≤ end → end - (p + s) + (end - (p + s + (q - s))) < end - p + (end - (p + q))
-fall_less t end p q s l h = omega arith
 
 module _ (t table : List ℕ) (end p q : ℕ) (b : Built t table end p q) (room : end < length table) (h : p + q < end) where
   -- one byte more stands
@@ -163,9 +151,6 @@ pub record Trying (w t : List ℕ) (from p q : ℕ) : Type 0 where
   pub high : q ≤ length t
   pub stands : p + length t ≤ length w → Stand w t p q
   pub same : occurs_in t (drop p w) ≡ occurs_in t (drop from w)
-
-pub try_less : (last p s r : ℕ) → 1 ≤ s → p + s ≤ r → p ≤ last → last + 1 - r < last + 1 - p
-try_less last p s r h k l = omega arith
 
 stand_one : (w t : List ℕ) (p : ℕ) → get_or w p 0 ≡ get_or t 0 0 → Stand w t p 1
 stand_one w t p e zero j = ap (λ (x : ℕ). get_or w x 0) (add-zero p) ∙ e

@@ -26,15 +26,14 @@ fn clear(w: &[u8], p: usize, text: &[u8], y: usize) -> bool
     ensures { result ≡ true → Clear w.now text.now p (p + 16) }
 {
     let mut none = true;
-    let mut i = 0;
-    while i < 16 {
-        none = none & !likely(w, p + i, text, y);
-        i += 1;
+    for i in 0..16 {
+        none &= !likely(w, p + i, text, y);
     }
     none
 }
 
-// A place from `from` on before which text does not stand: sixteen places at a time.
+// A place from `from` on before which text does not stand: sixteen places at a time. (A while, since where the last step leads to is the
+// answer too.)
 fn skip(w: &[u8], from: usize, text: &[u8], y: usize) -> usize
     requires { (from ≤ length w.now) × (length text.now ≤ length w.now) × (y < length text.now) }
     ensures { (from ≤ result) × Clear w.now text.now from result }
@@ -56,15 +55,14 @@ fn seek(w: &[u8], from: usize, text: &[u8], y: usize) -> usize
     requires { (from ≤ length w.now) × (length text.now ≤ length w.now) × (y < length text.now) }
     ensures { PassedTo w.now text.now from result }
 {
-    let last = w.len() - text.len();
-    let mut p = skip(w, from, text, y);
-    while p <= last {
+    let start = skip(w, from, text, y);
+    let end = w.len() - text.len() + 1;
+    for p in start..end {
         if likely(w, p, text, y) {
             return p;
         }
-        p += 1;
     }
-    p
+    start.max(end)
 }
 
 // Whether the sixteen bytes of text from i on stand in w too, where those before them do. All are looked at, as in clear.
@@ -73,16 +71,14 @@ fn alike(w: &[u8], p: usize, text: &[u8], i: usize) -> bool
     ensures { result ≡ true → Stand w.now text.now p (i + 16) }
 {
     let mut all = true;
-    let mut k = 0;
-    while k < 16 {
+    for k in 0..16 {
         let j = i + k;
-        all = all & (w[p + j] == text[j]);
-        k += 1;
+        all &= w[p + j] == text[j];
     }
     all
 }
 
-// Some of text's first bytes that stand in w from p on, sixteen more at a time; that q do is known.
+// Some of text's first bytes that stand in w from p on, sixteen more at a time; that q do is known. (A while, as in skip.)
 fn leap(w: &[u8], p: usize, text: &[u8], q: usize) -> usize
     requires { (p + length text.now ≤ length w.now) × (q ≤ length text.now) × Stand w.now text.now p q }
     ensures { (q ≤ result) × (result ≤ length text.now) × Stand w.now text.now p result }
@@ -102,33 +98,22 @@ fn run(w: &[u8], p: usize, text: &[u8], q: usize) -> usize
     requires { (p + length text.now ≤ length w.now) × (q ≤ length text.now) × Stand w.now text.now p q }
     ensures { Ran w.now text.now p q result }
 {
-    let mut i = q;
-    while i < text.len() {
+    for i in q..text.len() {
         if w[p + i] != text[i] {
             return i;
         }
-        i += 1;
     }
-    i
-}
-
-// How many of n bytes the table reaches.
-fn reached(n: usize) -> usize
-    ensures { result ≡ min n 929 }
-{
-    if n < REACH {
-        return n;
-    }
-    REACH
+    text.len()
 }
 
 // For each number of text's first bytes, the least number of places by which they can be moved on over themselves. In the loop q of
-// them stand in text from p on, and no move smaller than p is left for the p + q bytes up to there and the next.
+// them stand in text from p on, and no move smaller than p is left for the p + q bytes up to there and the next. (A while, since the step
+// is read from the table.)
 fn moves(text: &[u8]) -> [u16; 930]
     requires { 1 ≤ length text.now }
     ensures { Filled text.now result (min (length text.now) 929) }
 {
-    let end = reached(text.len());
+    let end = text.len().min(REACH);
     let mut table = [1u16; 930];
     let mut p = 1;
     let mut q = 0;
@@ -151,7 +136,7 @@ fn moves(text: &[u8]) -> [u16; 930]
 
 // Whether text stands in w at `from`, where its first byte does, or further on. Where some of its bytes stand at a place and the next
 // does not, the place moves on to the next at which those bytes can stand. They are not looked at again, so that a string of repeats
-// costs no more than another.
+// costs no more than another. (A while, since the step is read from the table.)
 fn onward(w: &[u8], from: usize, text: &[u8]) -> bool
     requires { (from + length text.now ≤ length w.now) × (1 ≤ length text.now) × Stand w.now text.now from 1 }
     ensures { result ≡ occurs_in text.now (drop from w.now) }
@@ -166,7 +151,7 @@ fn onward(w: &[u8], from: usize, text: &[u8]) -> bool
         if r == m {
             return true;
         }
-        let c = reached(r);
+        let c = r.min(REACH);
         let s = table[c] as usize;
         p += s;
         q = c - s;
@@ -193,37 +178,31 @@ pub fn occurs(w: &[u8], text: &[u8]) -> bool
     }
     let last = n - m;
     let mut at = seek(w, 0, text, m - 1);
-    let mut left = TRIES;
-    while at <= last {
-        if left == 0 {
-            return onward(w, at, text);
+    for _try in 0..TRIES {
+        if last < at {
+            return false;
         }
         let r = run(w, at, text, leap(w, at, text, 1));
         if r == m {
             return true;
         }
-        left -= 1;
         at = seek(w, at + 1, text, r);
     }
-    false
+    if last < at {
+        return false;
+    }
+    onward(w, at, text)
 }
 
 // The window of a record: from offset on, for number bytes (0: to the record's end), cut at the record's end.
 pub fn window(record: &[u8], offset: usize, number: usize) -> &[u8]
     ensures { result.now ≡ window_of «record».now offset number }
 {
-    let n = record.len();
-    if n < offset {
-        return &record[n..];
-    }
+    let rest = &record[offset.min(record.len())..];
     if number == 0 {
-        return &record[offset..];
+        return rest;
     }
-    if n - offset < number {
-        return &record[offset..];
-    }
-    let e = offset + number;
-    &record[offset..e]
+    &rest[..number.min(rest.len())]
 }
 
 // Whether text stands anywhere in the window of a record.

@@ -1,13 +1,11 @@
 -- What the functions for C answer, and the session bytes afterwards.
-use Rattle.std.specs.Prelude.{ℕ, ◌+◌, ◌*◌, ◌%◌, Bool, false, List, [], ◌∷◌, ◌++◌, length, take, drop, leb, eqb}
+use Rattle.std.specs.Prelude.{ℕ, ◌+◌, ◌*◌, ◌%◌, Bool, false, Option, Some, None, Result, Ok, Err, List, [], ◌∷◌, ◌++◌, length, take, drop, leb, eqb}
 use Rattle.base.specs.Choice.{if_else, all_of}
 use Rattle.base.specs.Bytes.{put}
 use Rattle.machine_apdu.specs.Status.{normal}
 use Rattle.machine_session.specs.Verdict.{verdict_number, verdict}
 use Rattle.machine_session.specs.declared.Session.{Session}
 use Rattle.machine_session.specs.declared.Refusal.TheVariants.{BadSession}
-use Rattle.machine_session.specs.declared.Verdict.{Verdict}
-use Rattle.machine_session.specs.declared.Verdict.TheVariants.{Accepted, Refused}
 use Rattle.machine_answer.specs.Outcome.{Outcome}
 use Rattle.machine_chain.specs.Chain.{Chain, NoChain}
 use Rattle.machine_chain.specs.Layout.{chain_bytes, is_chain, chain_in}
@@ -16,30 +14,27 @@ use Rattle.machine.specs.Lent.{step_lent, chain_into}
 use Rattle.machine_cut.specs.Cutting.{CutOutcome, cut_lent}
 use Rattle.machine_session_bytes.specs.Layout.{session_bytes, is_session, session_in}
 use Rattle.store_image.specs.Image.{find, well_formed}
-use Rattle.store_image.specs.declared.Found.{Found}
-use Rattle.store_image.specs.declared.Found.TheVariants.{At, Missing}
 use Rattle.store_certificates.specs.Certificates.{certificate_refusal, which_body, certificate_stretch}
 use Rattle.store_certificates.specs.declared.Located.{Located}
-use Rattle.objects_extensions.specs.Read.{run_number}
-use Rattle.objects_extensions.specs.declared.RightsRead.{RightsRead}
-use Rattle.objects_extensions.specs.declared.RightsRead.TheVariants.{Told as RightsTold, ShortBuffer}
-use Rattle.objects_stamp.specs.Read.{finding_number, finding_place}
-use Rattle.objects_stamp.specs.declared.StampRead.{StampRead}
-use Rattle.objects_stamp.specs.declared.StampRead.TheVariants.{Told, ShortList}
+use Rattle.objects_extensions.specs.Faults.{extension_fault_number}
+use Rattle.objects_extensions.specs.declared.RightsFault.{RightsFault}
+use Rattle.objects_extensions.specs.declared.RightsFault.TheVariants.{Faulty, ShortBuffer}
+use Rattle.objects_stamp.specs.Faults.{reason_number}
+use Rattle.objects_stamp.specs.declared.StampFault.{StampFault}
+use Rattle.objects_stamp.specs.declared.StampFault.TheVariants.{Wrong, ShortList}
 use Rattle.store_index.specs.Index.{index_refusal, index_count}
-use Rattle.store_index.specs.declared.Indexed.{Indexed}
 use Rattle.store_move.specs.Moving.{move_refusal_number}
-use Rattle.store_move.specs.declared.Moved.{Moved}
-use Rattle.store_move.specs.declared.Moved.TheVariants.{Image, Refused as MoveRefused}
+use Rattle.store_move.specs.declared.MoveRefusal.{MoveRefusal}
+use Rattle.machine_session.specs.declared.Refusal.{Refusal}
 
 -- verdict · 2^32 + length · 2^16 + status; length and status are below 65,536 [X3]
-unfoldable pub result_of : Verdict → ℕ → ℕ → ℕ
+unfoldable pub result_of : Result (Unit {0}) Refusal → ℕ → ℕ → ℕ
 result_of v length status = verdict_number v * 4294967296 + length % 65536 * 65536 + status % 65536
 
 -- an opening: the rights, then whether the session's buffer takes the session [X4]
-abbrev pub opening_verdict : Verdict → Bool → Verdict
-opening_verdict Accepted stored = if_else stored Accepted (Refused BadSession)
-opening_verdict (Refused r) stored = Refused r
+abbrev pub opening_verdict : Result (Unit {0}) Refusal → Bool → Result (Unit {0}) Refusal
+opening_verdict (Ok tt) stored = if_else stored (Ok tt) (Err BadSession)
+opening_verdict (Err r) stored = Err r
 
 -- the bytes of a session with its chain [X1]
 unfoldable pub whole_bytes : Session → Chain → List ℕ
@@ -105,7 +100,7 @@ called img ses cmd buf =
     (malformed img ses buf)
 
 -- of a cut: refusal · 2^32 + how many stores the whole command has, which is below 2^32 [X16]
-unfoldable pub cut_result : Verdict → ℕ → ℕ
+unfoldable pub cut_result : Result (Unit {0}) Refusal → ℕ → ℕ
 cut_result v stores = verdict_number v * 4294967296 + stores % 4294967296
 
 -- what a cut answers, and every byte of the image afterwards [X16]
@@ -127,14 +122,14 @@ called_cut img ses cmd n =
     if_else (is_session ses) (called_cut_by (cut_lent img (session_in ses) (chain_part ses) cmd n)) (called_cut_as (cut_result (verdict img false 2050) 0) img)
 
 -- of a move: refusal · 2^32, or the new image's length, which is below 2^32 [X6]
-abbrev pub move_result : Moved → ℕ
-move_result (Image n) = n
-move_result (MoveRefused w) = move_refusal_number w * 4294967296
+abbrev pub move_result : Result ℕ MoveRefusal → ℕ
+move_result (Ok n) = n
+move_result (Err w) = move_refusal_number w * 4294967296
 
 -- of a file: the place of its body · 2^32 + the body's length, both below 2^32; 0 where it is not there [X11]
-abbrev pub found_result : Found → ℕ
-found_result (At start n) = start % 4294967296 * 4294967296 + n % 4294967296
-found_result Missing = 0
+abbrev pub found_result : Option (ℕ × ℕ) → ℕ
+found_result (Some (start, n)) = start % 4294967296 * 4294967296 + n % 4294967296
+found_result None = 0
 
 -- 0 where the image is not well formed, too [X11]
 unfoldable pub file_result : List ℕ → ℕ → ℕ
@@ -147,15 +142,17 @@ certificate_result l =
 
 -- of a stamp: the reason · 2^32 + where the fault is, which is below 2^32; 0 where nothing is wrong. A reason is no refusal; the refusal is 15,
 -- where the list is too short [X14]
-abbrev pub stamp_result : StampRead → ℕ
-stamp_result (Told f) = finding_number f * 4294967296 + finding_place f % 4294967296
-stamp_result ShortList = 15 * 4294967296
+abbrev pub stamp_result : Result (Unit {0}) StampFault → ℕ
+stamp_result (Ok _) = 0
+stamp_result (Err (Wrong r at)) = reason_number r * 4294967296 + at % 4294967296
+stamp_result (Err ShortList) = 15 * 4294967296
 
 -- of an index: refusal · 2^32 + how many places, or how many bytes; either is below 65,536 [X13]
-unfoldable pub index_result : Indexed → ℕ
+unfoldable pub index_result : Option ℕ → ℕ
 index_result a = index_refusal a * 4294967296 + index_count a
 
 -- of the rights of three certificates: refusal · 2^32, where number 1 is that of a buffer that is too short; 0 where there is none [X15]
-abbrev pub rights_result : RightsRead → ℕ
-rights_result (RightsTold r) = run_number r * 4294967296
-rights_result ShortBuffer = 4294967296
+abbrev pub rights_result : Result (Unit {0}) RightsFault → ℕ
+rights_result (Ok _) = 0
+rights_result (Err (Faulty w)) = extension_fault_number w * 4294967296
+rights_result (Err ShortBuffer) = 4294967296

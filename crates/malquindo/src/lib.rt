@@ -6,26 +6,24 @@ ghost use Rattle.std.specs.Prelude.{◌≡◌, ◌≤◌, length};
 ghost use Rattle.machine_session.specs.Verdict.{refusal_number, verdict_number};
 ghost use Rattle.store_certificates.specs.Certificates.{located, certificate_refusal, which_body, certificate_stretch};
 ghost use Rattle.objects_extensions.specs.Faults.{extension_fault_number};
-ghost use Rattle.objects_extensions.specs.Read.{run_number, read_rights, read_rights_into};
+ghost use Rattle.objects_extensions.specs.Read.{read_rights, read_rights_into};
 ghost use Rattle.objects_stamp.specs.Faults.{reason_number};
 ghost use Rattle.objects_stamp.specs.Read.{read_stamp, read_stamp_into};
-ghost use Rattle.objects_stamp.specs.declared.StampRead.TheVariants.{Told};
 ghost use Rattle.store_index.specs.Index.{build, build_into, extend, extend_into, measure};
 ghost use Rattle.store_move.specs.Moving.{move_refusal_number, move_card, move_card_into};
 ghost use Rattle.malquindo.specs.Face.{move_result, result_of, opening_verdict, takes_session, opened_in, open_result, open_session, session_after, called_as, called, cut_result, called_cut_as, called_cut, found_result, file_result, certificate_result, index_result, stamp_result, rights_result};
 
 use machine_apdu::status::NORMAL;
-use machine_session::{Refusal, Session, Verdict};
-use objects_extensions::{ExtensionFault, RightsRead, RunRead};
-use objects_stamp::{Finding, Reason, StampRead};
+use machine_session::{Refusal, Session};
+use objects_extensions::{ExtensionFault, RightsFault};
+use objects_stamp::{Reason, StampFault};
 use store_certificates::{Located, Stretch};
-use store_image::Found;
-use store_index::Indexed;
-use store_move::{MoveRefusal, Moved};
+use store_move::MoveRefusal;
 
 // How many bytes a session has, with its chain.
 const LENGTH: usize = 1054;
 
+#[tactic(auto, unfolding(machine_session::specs::Verdict::refusal_number))]
 fn refusal_number(r: Refusal) -> u64
     ensures { (result ≡ refusal_number r) × (result ≤ 4) }
 {
@@ -37,38 +35,38 @@ fn refusal_number(r: Refusal) -> u64
     }
 }
 
-fn verdict_number(v: Verdict) -> u64
+#[tactic(auto, unfolding(machine_session::specs::Verdict::verdict_number))]
+fn verdict_number(v: Result<(), Refusal>) -> u64
     ensures { (result ≡ verdict_number v) × (result ≤ 4) }
 {
     match v {
-        Verdict::Accepted => 0,
-        Verdict::Refused(r) => refusal_number(r),
+        Ok(()) => 0,
+        Err(r) => refusal_number(r),
     }
 }
 
 // The three numbers of an answer in one.
-fn result(v: Verdict, length: usize, status: usize) -> u64
+#[tactic(auto, unfolding(crate::specs::Face::result_of))]
+fn result(v: Result<(), Refusal>, length: usize, status: usize) -> u64
     ensures { result ≡ result_of v length status }
 {
     verdict_number(v) * 4294967296 + (length % 65536) as u64 * 65536 + (status % 65536) as u64
 }
 
 // Whether an opening is accepted: its rights come first, then whether its session could be stored.
-fn opening_verdict(v: Verdict, stored: bool) -> Verdict
+fn opening_verdict(v: Result<(), Refusal>, stored: bool) -> Result<(), Refusal>
     ensures { result ≡ opening_verdict v stored }
 {
-    match v {
-        Verdict::Accepted => {
-            if stored {
-                return Verdict::Accepted;
-            }
-            Verdict::Refused(Refusal::BadSession)
-        }
-        Verdict::Refused(r) => Verdict::Refused(r),
+    v?;
+    if stored {
+        Ok(())
+    } else {
+        Err(Refusal::BadSession)
     }
 }
 
 // Stores the session that a command answers, on 9000 alone.
+#[tactic(auto, unfolding(crate::specs::Face::session_after))]
 fn keep(session: &mut [u8], status: usize, s: Session) -> bool
     ensures { session.new ≡ session_after session.old status s }
 {
@@ -97,14 +95,13 @@ fn put_opened(session: &mut [u8], s: Session) -> bool
 }
 
 // Opens a session with the rights of three certificates.
+#[tactic(auto, unfolding(crate::specs::Face::open_result, crate::specs::Face::open_session))]
 pub fn malquindo_open(rights: &[u8], session: &mut [u8]) -> u64
     ensures { (result ≡ open_result rights.now session.old) × (session.new ≡ open_session rights.now session.old) }
 {
     let a = machine::open(rights);
-    let s = a.session;
-    let v = a.verdict;
-    let stored = put_opened(session, s);
-    result(opening_verdict(v, stored), 0, 0)
+    let stored = put_opened(session, a.session);
+    result(opening_verdict(a.verdict, stored), 0, 0)
 }
 
 // One command.
@@ -121,14 +118,13 @@ pub fn malquindo_command(
     }
     let given = machine_session_bytes::session_in(session);
     let a = machine::command(image, given, &mut session[25..], command, response);
-    let v = a.verdict;
-    let s = a.session;
-    keep(session, a.status, s);
-    result(v, a.length, a.status)
+    keep(session, a.status, a.session);
+    result(a.verdict, a.length, a.status)
 }
 
 // The two numbers of a cut in one.
-fn cut_result(v: Verdict, stores: usize) -> u64
+#[tactic(auto, unfolding(crate::specs::Face::cut_result))]
+fn cut_result(v: Result<(), Refusal>, stores: usize) -> u64
     ensures { result ≡ cut_result v stores }
 {
     verdict_number(v) * 4294967296 + (stores % 4294967296) as u64
@@ -148,8 +144,7 @@ pub fn malquindo_cut(image: &mut [u8], session: &[u8], command: &[u8], stores: u
         command,
         stores,
     );
-    let v = a.verdict;
-    cut_result(v, a.stores)
+    cut_result(a.verdict, a.stores)
 }
 
 // The number of a move's refusal.
@@ -166,12 +161,12 @@ fn move_refusal_number(r: MoveRefusal) -> u64
 }
 
 // That number or the new image's length, in one.
-fn move_result(m: Moved) -> u64
+fn move_result(m: Result<usize, MoveRefusal>) -> u64
     ensures { result ≡ move_result m }
 {
     match m {
-        Moved::Image(n) => n as u64,
-        Moved::Refused(w) => move_refusal_number(w) * 4294967296,
+        Ok(n) => n as u64,
+        Err(w) => move_refusal_number(w) * 4294967296,
     }
 }
 
@@ -179,28 +174,28 @@ fn move_result(m: Moved) -> u64
 pub fn malquindo_move(old: &[u8], list: &[u8], target: &mut [u8]) -> u64
     ensures { (result ≡ move_result (move_card old.now list.now (length target.old))) × (target.new ≡ move_card_into old.now list.now target.old) }
 {
-    let m = store_move::move_card(old, list, target);
-    move_result(m)
+    move_result(store_move::move_card(old, list, target))
 }
 
 // Where a section's body begins, and its length, in one.
-fn found_result(f: Found) -> u64
+fn found_result(f: Option<(usize, usize)>) -> u64
     ensures { result ≡ found_result f }
 {
     match f {
-        Found::At(start, n) => (start % 4294967296) as u64 * 4294967296 + (n % 4294967296) as u64,
-        Found::Missing => 0,
+        Some((start, n)) => (start % 4294967296) as u64 * 4294967296 + (n % 4294967296) as u64,
+        None => 0,
     }
 }
 
 // Where the body of a file stands in a card image.
+#[tactic(auto, unfolding(crate::specs::Face::file_result))]
 pub fn malquindo_file(image: &[u8], kind: u16) -> u64
     ensures { result ≡ file_result image.now kind }
 {
     if !store_image::well_formed(image) {
         return 0;
     }
-    found_result(store_image::find(image, kind as usize))
+    found_result(store_image::find(image, usize::from(kind)))
 }
 
 // The number of a certificate's refusal, 0 where there is none.
@@ -246,6 +241,7 @@ fn certificate_stretch(l: Located) -> Stretch
 }
 
 // The four numbers of an answer in one.
+#[tactic(auto, unfolding(crate::specs::Face::certificate_result))]
 fn certificate_result(l: Located) -> u64
     ensures { result ≡ certificate_result l }
 {
@@ -264,12 +260,13 @@ pub fn malquindo_certificate(card: &[u8], desk: &[u8], reference: u8) -> u64
 }
 
 // An index's refusal, or how many places or bytes, in one.
-fn index_result(a: Indexed) -> u64
+#[tactic(auto, unfolding(crate::specs::Face::index_result))]
+fn index_result(a: Option<usize>) -> u64
     ensures { result ≡ index_result a }
 {
     match a {
-        Indexed::Counted(n) => n as u64,
-        Indexed::Refused => 6 * 4294967296,
+        Some(n) => n as u64,
+        None => 6 * 4294967296,
     }
 }
 
@@ -277,16 +274,14 @@ fn index_result(a: Indexed) -> u64
 pub fn malquindo_index_build(kind: u16, body: &[u8], places: &mut [u32]) -> u64
     ensures { (result ≡ index_result (build kind body.now places.old)) × (places.new ≡ build_into kind body.now places.old) }
 {
-    let a = store_index::build(kind as usize, body, places);
-    index_result(a)
+    index_result(store_index::build(usize::from(kind), body, places))
 }
 
 // Extends an index of n places after an append.
 pub fn malquindo_index_extend(kind: u16, body: &[u8], places: &mut [u32], n: usize) -> u64
     ensures { (result ≡ index_result (extend kind body.now places.old n)) × (places.new ≡ extend_into kind body.now places.old n) }
 {
-    let a = store_index::extend(kind as usize, body, places, n);
-    index_result(a)
+    index_result(store_index::extend(usize::from(kind), body, places, n))
 }
 
 // The length of the record of a number, by its place in an index.
@@ -307,23 +302,16 @@ fn reason_number(r: Reason) -> u64
     }
 }
 
-// The reason of a fault, or 0, and its place in one.
-fn finding_result(f: Finding) -> u64
-    ensures { result ≡ stamp_result (Told f) }
-{
-    match f {
-        Finding::Right => 0,
-        Finding::Wrong(reason, at) => reason_number(reason) * 4294967296 + (at % 4294967296) as u64,
-    }
-}
-
-// What a stamp's first fault is, 0 where there is none, and 15 where the list is too short, in one.
-fn stamp_result(a: StampRead) -> u64
+// What a stamp's first fault is, its reason and its place, 0 where there is none, and 15 where the list is too short, in one.
+fn stamp_result(a: Result<(), StampFault>) -> u64
     ensures { result ≡ stamp_result a }
 {
     match a {
-        StampRead::Told(f) => finding_result(f),
-        StampRead::ShortList => 15 * 4294967296,
+        Ok(()) => 0,
+        Err(StampFault::Wrong(reason, at)) => {
+            reason_number(reason) * 4294967296 + (at % 4294967296) as u64
+        }
+        Err(StampFault::ShortList) => 15 * 4294967296,
     }
 }
 
@@ -331,8 +319,7 @@ fn stamp_result(a: StampRead) -> u64
 pub fn malquindo_stamp_read(record: &[u8], places: &mut [u32]) -> u64
     ensures { (result ≡ stamp_result (read_stamp «record».now places.old)) × (places.new ≡ read_stamp_into «record».now places.old) }
 {
-    let a = objects_stamp::read_stamp(record, places);
-    stamp_result(a)
+    stamp_result(objects_stamp::read_stamp(record, places))
 }
 
 // The number of an extension's fault.
@@ -345,23 +332,14 @@ fn extension_fault_number(w: ExtensionFault) -> u64
     }
 }
 
-// The same of a run, 0 where it has no fault.
-fn run_number(r: RunRead) -> u64
-    ensures { (result ≡ run_number r) × (result ≤ 8) }
-{
-    match r {
-        RunRead::Whole => 0,
-        RunRead::Faulty(w) => extension_fault_number(w),
-    }
-}
-
-// That number as a refusal, and 1 where the buffer is too short.
-fn rights_result(a: RightsRead) -> u64
+// That number as a refusal, 1 where the buffer is too short, and 0 where there is no fault.
+fn rights_result(a: Result<(), RightsFault>) -> u64
     ensures { result ≡ rights_result a }
 {
     match a {
-        RightsRead::Told(r) => run_number(r) * 4294967296,
-        RightsRead::ShortBuffer => 4294967296,
+        Ok(()) => 0,
+        Err(RightsFault::Faulty(w)) => extension_fault_number(w) * 4294967296,
+        Err(RightsFault::ShortBuffer) => 4294967296,
     }
 }
 
@@ -369,6 +347,5 @@ fn rights_result(a: RightsRead) -> u64
 pub fn malquindo_rights(first: &[u8], second: &[u8], third: &[u8], rights: &mut [u8]) -> u64
     ensures { (result ≡ rights_result (read_rights first.now second.now third.now rights.old)) × (rights.new ≡ read_rights_into first.now second.now third.now rights.old) }
 {
-    let a = objects_extensions::read_rights(first, second, third, rights);
-    rights_result(a)
+    rights_result(objects_extensions::read_rights(first, second, third, rights))
 }

@@ -1,25 +1,22 @@
 -- Three runs: what they give, and each run or its fault; then the same as the code goes. Read before: specs/Faults.antt, specs/Read.antt.
--- Exports `chain_complete`, `chain_length`, `chain_fault`, `chain_or_fault`, and `rights-…` for the code.
+-- Exports `chain_complete`, `chain_length`, `chain_fault`, `chain_or_fault`, and `ran-…` and `rights-…` for the code.
 use Prim.Native.Nat.{ℕ, ◌≤◌, ◌<◌}
-use mathlib.Core.Path.{◌≡◌, refl, ap, ◌∙◌}
-use mathlib.Core.Bool.{Bool, true, false, not}
+use mathlib.Core.Path.{◌≡◌, refl, sym, ap, ◌∙◌}
 use mathlib.Core.Logic.{◌⊎◌, inl, inr, ⊎_elim}
 use mathlib.Core.List.{List, ◌++◌, append_assoc}
 use native.Mathlib.Omega.{arith}
 use lib.ListN.{length, replicate, length-append}
 use borrow.Author.Tests.{lt-ltb, le-ltb}
 use Rattle.base.specs.Bytes.{AllBytes, put}
-use Rattle.base.proofs.Cases.{flag_refused, flag_accepted}
 use Rattle.base.proofs.Runs.{put-behind}
 use Rattle.objects_extensions.specs.declared.ExtensionFault.{ExtensionFault}
-use Rattle.objects_extensions.specs.declared.RunRead.{RunRead}
-use Rattle.objects_extensions.specs.declared.RunRead.TheVariants.{Whole, Faulty}
-use Rattle.objects_extensions.specs.declared.RightsRead.{RightsRead}
-use Rattle.objects_extensions.specs.declared.RightsRead.TheVariants.{Told, ShortBuffer}
+use Rattle.std.specs.Prelude.{Result, Ok, Err}
+use Rattle.objects_extensions.specs.declared.RightsFault.{RightsFault}
+use Rattle.objects_extensions.specs.declared.RightsFault.TheVariants.{ShortBuffer, Faulty}
 use Rattle.objects_extensions.specs.Extensions.{Extension, certificate_data, RunsOf}
 use Rattle.objects_extensions.specs.Faults.{ChainFault, in-first, in-second, in-third}
-use Rattle.objects_extensions.specs.Read.{is_whole, RunResult, whole, run_on, empty_certificate, runs_on, chain_data, read_rights, read_rights_into}
-use Rattle.objects_extensions.proofs.Runs.{not-whole, run_complete, certificate-length, run_fault, run_or_fault}
+use Rattle.objects_extensions.specs.Read.{RunRead, whole, faulty, run_on, empty_certificate, runs_on, runs_into, chain_data, read_rights, read_rights_into}
+use Rattle.objects_extensions.proofs.Runs.{run_complete, certificate-length, run_fault, run_or_fault}
 use Rattle.objects_extensions.proofs.Steps.{Gave, of_gave}
 
 -- ---- what three runs give
@@ -36,11 +33,11 @@ module _ (f s t : List ℕ) where
       omega (arith, certificate-length a f x.is_first, certificate-length b s x.is_second, certificate-length c t x.is_third)
 
   module _ (bf : AllBytes f) (bs : AllBytes s) (bt : AllBytes t) where
-    pub chain_fault : (w : ExtensionFault) → ChainFault f s t w → (runs_on f s t).read ≡ Faulty w
+    pub chain_fault : (w : ExtensionFault) → ChainFault f s t w → (runs_on f s t).read ≡ Err w
     unfolding runs_on
-    chain_fault w (in-first x) = let e = run_fault f w bf x in rw e (simp (not-whole w))
-    chain_fault w (in-second a x y) = let e = run_fault s w bs y in rw (run_complete a f x, e) (simp (not-whole w))
-    chain_fault w (in-third a b x y z) = let e = run_fault t w bt z in rw (run_complete a f x, run_complete b s y, e) (simp (not-whole w))
+    chain_fault w (in-first x) = let e = run_fault f w bf x in rw e refl
+    chain_fault w (in-second a x y) = let e = run_fault s w bs y in rw (run_complete a f x, e) refl
+    chain_fault w (in-third a b x y z) = let e = run_fault t w bt z in rw (run_complete a f x, run_complete b s y, e) refl
 
     pub chain_or_fault : ((a : List Extension) × (b : List Extension) × (c : List Extension) × RunsOf a b c f s t) ⊎ ((w : ExtensionFault) × ChainFault f s t w)
     chain_or_fault =
@@ -67,40 +64,60 @@ put_three out a b c h i j k =
     let q : put (put out 0 (a ++ b)) 40 c ≡ put out 0 ((a ++ b) ++ c) = rw n at (put-behind out 0 (a ++ b) c (omega arith)) in
     rw p (q ∙ ap (put out 0) (append_assoc a b c))
 
+module _ (f s t : List ℕ) {x : RunRead} {a : List ℕ} (ga : Gave (run_on empty_certificate f) x a) where
+  pub first-stops : {w : ExtensionFault} → x ≡ Err w → runs_on f s t ≡ faulty w a
+  unfolding runs_on
+  first-stops h = rw (of_gave ga, h) refl
+
+  module _ (i : x ≡ Ok tt) {y : RunRead} {b : List ℕ} (gb : Gave (run_on empty_certificate s) y b) where
+    pub second-stops : {w : ExtensionFault} → y ≡ Err w → runs_on f s t ≡ faulty w b
+    unfolding runs_on
+    second-stops h = rw (of_gave ga, i, of_gave gb, h) refl
+
+    module _ (j : y ≡ Ok tt) {z : RunRead} {c : List ℕ} (gc : Gave (run_on empty_certificate t) z c) where
+      pub third-stops : {w : ExtensionFault} → z ≡ Err w → runs_on f s t ≡ faulty w c
+      unfolding runs_on
+      third-stops h = rw (of_gave ga, i, of_gave gb, j, of_gave gc, h) refl
+
+      pub none-stops : z ≡ Ok tt → runs_on f s t ≡ whole (a ++ (b ++ c))
+      unfolding runs_on
+      none-stops k = rw (of_gave ga, i, of_gave gb, j, of_gave gc, k) refl
+
+-- what `three_runs` answers and writes
 module _ (f s t out : List ℕ) where
-  abbrev Done : RightsRead → List ℕ → Type 0
+  abbrev pub Ran : RunRead → List ℕ → Type 0
+  Ran r d = (r ≡ (runs_on f s t).read) × (d ≡ runs_into f s t out)
+
+  pub ran-fault : {w : ExtensionFault} {b : List ℕ} {r : RunRead} → runs_on f s t ≡ faulty w b → r ≡ Err w → Ran r out
+  unfolding runs_into
+  ran-fault e g = (rw (e, g) refl, rw e refl)
+
+  pub ran_all : (a b c : List ℕ) → runs_on f s t ≡ whole (a ++ (b ++ c)) → 60 ≤ length out → length a ≡ 20 → length b ≡ 20 → length c ≡ 20
+      → {d e g : List ℕ} → d ≡ put out 0 a → e ≡ put d 20 b → g ≡ put e 40 c → Ran (Ok tt) g
+  unfolding runs_into
+  ran_all a b c m h la lb lc p q r = (rw m refl, rw (m, r, q, p) (put_three out a b c h la lb lc))
+
+  -- ---- and then `read_rights`
+
+  abbrev Done : Result (Unit {0}) RightsFault → List ℕ → Type 0
   Done r d = (r ≡ read_rights f s t out) × (d ≡ read_rights_into f s t out)
 
-  pub rights-short : length out < 60 → Done ShortBuffer out
+  pub rights-short : length out < 60 → Done (Err ShortBuffer) out
   unfolding read_rights read_rights_into
   rights-short h = let e = lt-ltb (length out) 60 h in (simp e, simp e)
 
-  of-chain : {r : RightsRead} {d : List ℕ} (x : RunResult) → 60 ≤ length out → runs_on f s t ≡ x → (r ≡ Told x.read) × (d ≡ put out 0 (chain_data x)) → Done r d
-  unfolding read_rights read_rights_into
-  of-chain x h e g = let i = le-ltb (length out) 60 h in (simp i (rw e g.0), simp i (rw e g.1))
+  module _ (h : 60 ≤ length out) {x : RunRead} {d : List ℕ} (g : Ran x d) where
+    -- a fault: the zeros are written into a buffer that `three_runs` left as it was
+    pub rights-fault : {w : ExtensionFault} {l : List ℕ} → x ≡ Err w → l ≡ put d 0 (replicate 60 0) → Done (Err (Faulty w)) l
+    unfolding read_rights read_rights_into chain_data runs_into
+    rights-fault e m =
+        let i = le-ltb (length out) 60 h in
+        let k = sym g.0 ∙ e in
+        (rw (i, k) refl, m ∙ rw (g.1, i, k) refl)
 
-  -- what `refuse` answers and writes
-  abbrev Refused : RunRead → RightsRead → List ℕ → Type 0
-  Refused n r d = (r ≡ Told n) × (d ≡ put out 0 (replicate 60 0))
-
-  module _ (h : 60 ≤ length out) {x : RunRead} {a : List ℕ} (ga : Gave (run_on empty_certificate f) x a) {u : Bool} (eu : u ≡ is_whole x) where
-    pub rights-first : not u ≡ true → {r : RightsRead} {d : List ℕ} → Refused x r d → Done r d
-    unfolding runs_on chain_data
-    rights-first n g = of-chain (record { read = x; bytes = a }) h (rw (of_gave ga) (simp (flag_refused eu n))) (simp (flag_refused eu n) g)
-
-    module _ (i : not u ≡ false) {y : RunRead} {b : List ℕ} (gb : Gave (run_on empty_certificate s) y b) {v : Bool} (ev : v ≡ is_whole y) where
-      pub rights_second : not v ≡ true → {r : RightsRead} {d : List ℕ} → Refused y r d → Done r d
-      unfolding runs_on chain_data
-      rights_second n g = of-chain (record { read = y; bytes = b }) h (rw (of_gave ga, of_gave gb) (simp (flag_accepted eu i, flag_refused ev n))) (simp (flag_refused ev n) g)
-
-      module _ (j : not v ≡ false) {z : RunRead} {c : List ℕ} (gc : Gave (run_on empty_certificate t) z c) {w : Bool} (ew : w ≡ is_whole z) where
-        pub rights_third : not w ≡ true → {r : RightsRead} {d : List ℕ} → Refused z r d → Done r d
-        unfolding runs_on chain_data
-        rights_third n g =
-            of-chain (record { read = z; bytes = c }) h (rw (of_gave ga, of_gave gb, of_gave gc) (simp (flag_accepted eu i, flag_accepted ev j, flag_refused ew n))) (simp (flag_refused ew n) g)
-
-        pub rights_all : not w ≡ false → length a ≡ 20 → length b ≡ 20 → length c ≡ 20 → {d e g : List ℕ} → d ≡ put out 0 a → e ≡ put d 20 b → g ≡ put e 40 c → Done (Told Whole) g
-        unfolding runs_on chain_data
-        rights_all k la lb lc {d} {e} {g} p q r =
-            let m : runs_on f s t ≡ whole (a ++ (b ++ c)) = rw (of_gave ga, of_gave gb, of_gave gc) (simp (flag_accepted eu i, flag_accepted ev j, flag_accepted ew k)) in
-            of-chain (whole (a ++ (b ++ c))) h m (refl, rw (r, q, p) (put_three out a b c h la lb lc))
+    pub rights-whole : x ≡ Ok tt → Done (Ok tt) d
+    unfolding read_rights read_rights_into chain_data runs_into
+    rights-whole e =
+        let i = le-ltb (length out) 60 h in
+        let k = sym g.0 ∙ e in
+        (rw (i, k) refl, g.1 ∙ rw (i, k) refl)

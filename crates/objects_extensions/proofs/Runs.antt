@@ -1,9 +1,9 @@
 -- A run gives the certificate of its extensions, or tells the fault of the first that has one; and each run of bytes is one or the other.
--- Read before: specs/Faults.antt. Exports `run_end`, `not-whole`, `run_complete`,
+-- Read before: specs/Faults.antt. Exports `run_end`, `run_complete`,
 -- `run-filled`, `certificate-length`, `run_fault`, `run_or_fault`.
 use Prim.Native.Nat.{ℕ, zero, suc, ◌+◌, ◌≤◌}
 use mathlib.Core.Path.{◌≡◌, refl, sym, ap, ◌∙◌}
-use mathlib.Core.Bool.{true, false}
+use mathlib.Core.Bool.{true}
 use mathlib.Core.Logic.{◌⊎◌, inl, inr, ⊎_elim}
 use mathlib.Core.List.{List, [], ◌∷◌, ◌++◌, append-nil, append_assoc}
 use native.Mathlib.Omega.{arith}
@@ -14,23 +14,22 @@ use borrow.Author.Tests.{ne_eqb}
 use Rattle.base.specs.Bytes.{part, AllBytes}
 use Rattle.base.proofs.Cases.{by_cases, false-true}
 use Rattle.objects_writer.specs.Writing.{tlv, tag_bytes}
-use Rattle.objects_reader.specs.Head.{head_of}
+use Rattle.objects_reader.specs.Head.{head_of, Head}
 use Rattle.objects_reader.specs.Form.{is_clean, read_all}
 use Rattle.objects_reader.specs.Encoding.{Values, encode, Sized, leaves, leaf_count, deep, Proper}
 use Rattle.objects_reader.specs.Places.{Noted}
-use Rattle.objects_reader.specs.declared.head.Head.{Head}
-use Rattle.objects_reader.specs.declared.head.Head.TheVariants.{Body, NoTag, NoLength}
-use Rattle.objects_reader.proofs.Heads.{head_size}
+use Rattle.objects_reader.specs.declared.head.HeadFault.TheVariants.{NoTag, NoLength}
+use Rattle.objects_reader.proofs.Heads.{head_size, same_place}
 use Rattle.objects_reader.proofs.Unique.{length-tlv, object_head, object_rest}
 use Rattle.objects_reader.proofs.Sayable.{AllSayable}
 use Rattle.objects_reader.proofs.Exact.{bytes_drop, bytes_take, none_left, all_complete, all_sound}
 use Rattle.objects_extensions.specs.declared.Known.TheVariants.{Travel, Visa, Biometrics}
 use Rattle.objects_extensions.specs.declared.ExtensionFault.{ExtensionFault}
-use Rattle.objects_extensions.specs.declared.ExtensionFault.TheVariants.{Malformed, Twice}
-use Rattle.objects_extensions.specs.declared.RunRead.TheVariants.{Faulty}
+use Rattle.objects_extensions.specs.declared.ExtensionFault.TheVariants.{Malformed}
+use Rattle.std.specs.Prelude.{Ok, Err}
 use Rattle.objects_extensions.specs.Extensions.{Extension, extension_value, extension_data, Sayable, run_data, rights_for, certificate_data, RightSize, FirstTime, FaultFree, RunOf}
 use Rattle.objects_extensions.specs.Faults.{FaultOf, NoExtension, RunFault, at-extension, at-bytes}
-use Rattle.objects_extensions.specs.Read.{is_whole, RunResult, whole, faulty, on_whole, keeps, extension_form, extension_on, on_front, run_in, run_on, empty_certificate}
+use Rattle.objects_extensions.specs.Read.{RunRead, RunResult, whole, faulty, on_whole, keeps, extension_form, extension_on, on_front, run_in, run_on, empty_certificate}
 use Rattle.objects_extensions.proofs.Kept.{Filled, filled_none, filled_next, none-given, keep_free, keep_fault, free_or_fault}
 
 -- ---- one extension
@@ -96,7 +95,7 @@ abbrev size : Extension → ℕ
 size e = head_size 0x73 (length (extension_value e)) + length (extension_value e)
 
 module _ (e : Extension) (b : List ℕ) where
-  front-head : Sayable e → head_of 0x73 (extension_data e ++ b) ≡ Body (head_size 0x73 (length (extension_value e))) (length (extension_value e))
+  front-head : Sayable e → head_of 0x73 (extension_data e ++ b) ≡ Ok (head_size 0x73 (length (extension_value e)), length (extension_value e))
   unfolding extension_data Sayable
   front-head h = object_head 0x73 (extension_value e) b (lit< tt) h
 
@@ -129,14 +128,14 @@ run_next k c e b h =
     simp (ne_eqb (length (extension_data e ++ b)) 0 (let z = front-some e b in omega arith), front-head e b h, front-taken e b, front-left e b, extension_complete c e h)
 
 -- where an extension stands first, the reader finds just it
-front_clean : (e : Extension) (b s : List ℕ) → Sayable e → s ≡ extension_data e ++ b → (start len : ℕ) → head_of 0x73 s ≡ Body start len
+front_clean : (e : Extension) (b s : List ℕ) → Sayable e → s ≡ extension_data e ++ b → (start len : ℕ) → head_of 0x73 s ≡ Ok (start, len)
     → is_clean (read_all extension_form (part s 0 (start + len))).fault ≡ true
 front_clean e b s z w start len q =
     let a = extension_value e in
-    let h : head_of 0x73 s ≡ Body (head_size 0x73 (length a)) (length a) = rw w (front-head e b z) in
-    let r : Body (head_size 0x73 (length a)) (length a) ≡ Body start len = sym h ∙ q in
-    let i : start ≡ head_size 0x73 (length a) = cc in
-    let j : len ≡ length a = cc in
+    let h : head_of 0x73 s ≡ Ok (head_size 0x73 (length a), length a) = rw w (front-head e b z) in
+    let r = same_place (sym h ∙ q) in
+    let i : start ≡ head_size 0x73 (length a) = sym r.0 in
+    let j : len ≡ length a = sym r.1 in
     let v : part s 0 (start + len) ≡ extension_data e = rw (i, j, w) (front-taken e b) in
     rw v (noted_extension e z).clean
 
@@ -155,9 +154,9 @@ module _ (s : List ℕ) (b : AllBytes s) where
   begins = of (head_of 0x73 s) refl
     where
       of : (h : Head) → head_of 0x73 s ≡ h → Begins ⊎ NoExtension s
-      of NoTag q = inr (λ e r z w. let h = sym (ap (head_of 0x73) w ∙ front-head e r z) ∙ q in let y : ◌≡◌ {A = ℕ} 0 1 = cc in omega arith)
-      of NoLength q = inr (λ e r z w. let h = sym (ap (head_of 0x73) w ∙ front-head e r z) ∙ q in let y : ◌≡◌ {A = ℕ} 0 1 = cc in omega arith)
-      of (Body start len) q =
+      of (Err NoTag) q = inr (λ e r z w. let h = sym (ap (head_of 0x73) w ∙ front-head e r z) ∙ q in let y : ◌≡◌ {A = ℕ} 0 1 = cc in omega arith)
+      of (Err NoLength) q = inr (λ e r z w. let h = sym (ap (head_of 0x73) w ∙ front-head e r z) ∙ q in let y : ◌≡◌ {A = ℕ} 0 1 = cc in omega arith)
+      of (Ok (start, len)) q =
           by_cases (is_clean (read_all extension_form (part s 0 (start + len))).fault)
           (λ x. let o = clean-front (start + len) x in inl (o.0, drop (start + len) s, o.1, o.2))
           (λ x. inr (λ e r z w. false-true (sym x ∙ front_clean e r s z w start len q)))
@@ -168,9 +167,9 @@ module _ (s : List ℕ) (b : AllBytes s) where
   run-broken k c n m = simp (ne_eqb (length s) 0 n) (of (head_of 0x73 s))
     where
       of : (h : Head) → on_front h (λ start len. on_whole (extension_on c (part s 0 (start + len))) (λ d. run_in k d (drop (start + len) s))) (faulty Malformed c) ≡ faulty Malformed c
-      of NoTag = refl
-      of NoLength = refl
-      of (Body start len) =
+      of (Err NoTag) = refl
+      of (Err NoLength) = refl
+      of (Ok (start, len)) =
           by_cases (is_clean (read_all extension_form (part s 0 (start + len))).fault)
           (λ x. let o = clean-front (start + len) x in absurd (m o.0 (drop (start + len) s) o.1 o.2))
           (λ x. simp x)
@@ -227,21 +226,20 @@ certificate-length es s w =
 
 -- ---- a fault
 
-pub not-whole : (w : ExtensionFault) → is_whole (Faulty w) ≡ false
-not-whole Malformed = refl
-not-whole Twice = refl
-
 stop_at : (k : ℕ) (es : List Extension) (e : Extension) (rest : List ℕ) (w : ExtensionFault) → length (extension_data e ++ rest) ≤ k → Sayable e → FaultOf es e w
     → run_in k (certificate_data es) (extension_data e ++ rest) ≡ faulty w (certificate_data es)
 stop_at zero es e rest w h z f = let y = front-some e rest in absurd (omega arith)
-stop_at (suc k) es e rest w h z f = run_next k (certificate_data es) e rest z ∙ rw (keep_fault es e w f) (simp (not-whole w))
+stop_at (suc k) es e rest w h z f = run_next k (certificate_data es) e rest z ∙ rw (keep_fault es e w f) refl
 
 stop_here : (k : ℕ) (c s : List ℕ) → AllBytes s → length s ≤ k → (s ≡ [] → ⊥) → NoExtension s → run_in k c s ≡ faulty Malformed c
 stop_here zero c s b h n m = absurd (n (none_left s (omega arith)))
 stop_here (suc k) c s b h n m = run-broken s b k c (λ e. n (none_left s e)) m
 
+abbrev fault : ExtensionFault → RunRead
+fault w = Err w
+
 -- a run with a fault tells it
-pub run_fault : (s : List ℕ) (w : ExtensionFault) → AllBytes s → RunFault s w → (run_on empty_certificate s).read ≡ Faulty w
+pub run_fault : (s : List ℕ) (w : ExtensionFault) → AllBytes s → RunFault s w → (run_on empty_certificate s).read ≡ Err w
 unfolding run_on
 run_fault s w b (at-extension es e rest o z q f) =
     let l = ap length q in
@@ -251,7 +249,7 @@ run_fault s w b (at-bytes es rest o q n m i) =
     let l = ap length q in
     let r = skip (length s) [] es rest filled_none o (omega arith) in
     let c : AllBytes rest = rw (q, drop_at (run_data es) rest (length (run_data es)) refl) at (bytes_drop (length (run_data es)) s b) in
-    ap (λ (x : RunResult). x.read) (ap (run_in (length s) empty_certificate) q ∙ rw (← none-given) r.same ∙ stop_here r.fuel (certificate_data es) rest c r.enough n m) ∙ ap Faulty (sym i)
+    ap (λ (x : RunResult). x.read) (ap (run_in (length s) empty_certificate) q ∙ rw (← none-given) r.same ∙ stop_here r.fuel (certificate_data es) rest c r.enough n m) ∙ ap fault (sym i)
 
 -- ---- one or the other
 

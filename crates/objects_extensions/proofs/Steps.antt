@@ -1,32 +1,34 @@
 -- The definitions step by step, as the code goes. Read before: specs/Read.antt.
-use Prim.Native.Nat.{ℕ, zero, suc, ◌+◌, ◌-◌, ◌≤◌, ◌<◌}
+use Prim.Native.Nat.{ℕ, zero, suc, ◌+◌, ◌≤◌, ◌<◌}
 use mathlib.Core.Path.{◌≡◌, refl, sym, ap, subst, ◌∙◌}
 use mathlib.Core.Bool.{Bool, true, false, not}
 use mathlib.Core.List.{List, [], ◌∷◌}
 use native.Mathlib.Omega.{arith}
-use lib.ListN.{length, get_or, take, drop, length-drop, drop_of_length-le}
-use lib.Seq.{drop-drop}
+use lib.ListN.{length, get_or, drop, length-drop}
 use lib.Dec.{ltb, eqb}
+use lib.Pointwise.{pointwise}
 use lib.Bits.{bit_or, or_lt}
-use borrow.Author.Tests.{ne_eqb}
+use borrow.Author.Tests.{eq-eqb, ne_eqb}
 use Rattle.base.specs.Bytes.{same_bytes, part, put}
-use Rattle.base.proofs.Cases.{if_else_ind, flag_refused, flag_accepted}
-use Rattle.base.proofs.Parts.{rest}
-use Rattle.objects_reader.specs.Head.{head_of, past_by, length_of}
+use Rattle.base.proofs.Cases.{if_else_ind}
+use Rattle.base.proofs.Same.{same_pointwise}
+use Rattle.objects_reader.specs.Head.{head_of, past_by, length_of, Head}
 use Rattle.objects_reader.specs.Form.{is_clean, read_all}
-use Rattle.objects_reader.specs.declared.head.Head.{Head}
-use Rattle.objects_reader.specs.declared.head.Head.TheVariants.{Body, NoTag, NoLength}
+use Rattle.objects_reader.specs.Places.{span_at}
+use Rattle.objects_reader.specs.declared.head.HeadFault.TheVariants.{NoTag, NoLength}
 use Rattle.objects_reader.specs.declared.reader.Reading.{Reading}
 use Rattle.objects_reader.proofs.Lengths.{HeadIn, head_of_in}
+use Rattle.objects_reader.proofs.Exact.{none_left}
+use Rattle.objects_reader.specs.declared.head.HeadFault.{HeadFault}
+use Rattle.std.specs.Option.{is_some}
 use Rattle.objects_extensions.specs.declared.Known.{Known}
 use Rattle.objects_extensions.specs.declared.Known.TheVariants.{Travel, Visa, Biometrics}
 use Rattle.objects_extensions.specs.declared.ExtensionFault.{ExtensionFault}
 use Rattle.objects_extensions.specs.declared.ExtensionFault.TheVariants.{Malformed, Twice}
-use Rattle.objects_extensions.specs.declared.RunRead.{RunRead}
-use Rattle.objects_extensions.specs.declared.RunRead.TheVariants.{Whole, Faulty}
+use Rattle.std.specs.Prelude.{Ok, Err}
 use Rattle.objects_extensions.specs.Extensions.{identifier_of, size_of, flag_of}
-use Rattle.objects_extensions.specs.Read.{is_whole, RunResult, whole, faulty, on_whole, rights_place, has_flag, keeps_known, keeps, extension_form, extension_on, on_front, run_in, run_on}
-use Rattle.objects_extensions.proofs.Runs.{not-whole, run_end}
+use Rattle.objects_extensions.specs.Read.{RunRead, RunResult, whole, faulty, on_whole, rights_place, has_flag, keeps_known, keeps, extension_form, extension_on, on_front, run_in, run_on}
+use Rattle.objects_extensions.proofs.Runs.{run_end}
 
 -- the answer n and the bytes d are those of r
 abbrev pub Gave : RunResult → RunRead → List ℕ → Type 0
@@ -40,14 +42,8 @@ of_gave {r} {n} {d} g = let a = g.0 in let b = g.1 in rw (a, b) refl
 
 -- ---- tests
 
-pub names_by : (id : List ℕ) {k j : Known} {r : Bool} → k ≡ j → r ≡ same_bytes id (identifier_of j) → r ≡ same_bytes id (identifier_of k)
-names_by id e f = rw e f
-
-pub whole_by : {r : RunRead} → r ≡ Whole → true ≡ is_whole r
-whole_by e = sym (ap is_whole e)
-
-pub faulty_by : {r : RunRead} {w : ExtensionFault} → r ≡ Faulty w → false ≡ is_whole r
-faulty_by {r} {w} e = sym (ap is_whole e ∙ not-whole w)
+pub names_by : (id : List ℕ) {k j : Known} {r : Bool} → k ≡ j → r ≡ pointwise eqb id (identifier_of j) → r ≡ same_bytes id (identifier_of k)
+names_by id {k} {j} e f = rw e (f ∙ same_pointwise id (identifier_of j))
 
 -- ---- a known extension
 
@@ -65,21 +61,18 @@ module _ (k : Known) {y : ℕ} (e : y ≡ flag_of k) where
   flag_set {x} h = rw e (or_lt 8 x (flag_of k) h (flag_range k).1)
 
 module _ (k : Known) (c v : List ℕ) {n : ℕ} (e : n ≡ size_of k) where
-  same_size : eqb (length v) n ≡ eqb (length v) (size_of k)
-  same_size = ap (eqb (length v)) e
-
-  pub keep_size : not (eqb (length v) n) ≡ true → keeps_known k c v ≡ faulty Malformed c
+  pub keep_size : (length v ≡ n → ⊥) → keeps_known k c v ≡ faulty Malformed c
   unfolding keeps_known
-  keep_size h = simp (flag_refused same_size h)
+  keep_size h = simp (ne_eqb (length v) (size_of k) (rw e at h))
 
-  module _ (h : not (eqb (length v) n) ≡ false) {t : Bool} (f : t ≡ has_flag k c) where
+  module _ (h : length v ≡ n) {t : Bool} (f : t ≡ has_flag k c) where
     pub keep_twice : t ≡ true → keeps_known k c v ≡ faulty Twice c
     unfolding keeps_known
-    keep_twice j = simp (flag_accepted same_size h, sym f ∙ j)
+    keep_twice j = simp (eq-eqb (length v) (size_of k) (h ∙ e), sym f ∙ j)
 
     pub keep_put : {x z p : ℕ} {d g : List ℕ} → t ≡ false → x ≡ get_or c 0 0 → z ≡ flag_of k → d ≡ put c 0 (bit_or x z ∷ []) → p ≡ rights_place k → g ≡ put d p v → keeps_known k c v ≡ whole g
     unfolding keeps_known
-    keep_put j i m a q b = simp (flag_accepted same_size h, sym f ∙ j) (rw (b, q, a, m, i) refl)
+    keep_put j i m a q b = simp (eq-eqb (length v) (size_of k) (h ∙ e), sym f ∙ j) (rw (b, q, a, m, i) refl)
 
 -- ---- any extension
 
@@ -110,103 +103,87 @@ module _ (c id v : List ℕ) {x : Bool} (a : x ≡ same_bytes id (identifier_of 
 
 -- ---- the bytes of an extension
 
-module _ (c t : List ℕ) {q : Reading} {r : Bool} (e : q ≡ read_all extension_form t) (f : r ≡ is_clean q.fault) where
-  pub extension_refused : not r ≡ true → extension_on c t ≡ faulty Malformed c
+module _ (c t : List ℕ) {q : Reading} {r : Bool} (e : q ≡ read_all extension_form t) (f : r ≡ is_some q.fault) where
+  pub extension_refused : r ≡ true → extension_on c t ≡ faulty Malformed c
   unfolding extension_on
-  extension_refused h = let n : is_clean (read_all extension_form t).fault ≡ false = rw (← e) (flag_refused f h) in simp n
+  extension_refused h = let n : is_clean (read_all extension_form t).fault ≡ false = rw (← e) (ap not (sym f ∙ h)) in simp n
 
-  pub extension_accepted : not r ≡ false → {a b : List ℕ} {n : RunRead} {d : List ℕ} → a ≡ part t (get_or q.starts 0 0) (get_or q.lens 0 0) → b ≡ part t (get_or q.starts 1 0) (get_or q.lens 1 0)
+  pub extension_accepted : r ≡ false → {a b : List ℕ} {n : RunRead} {d : List ℕ} → a ≡ part t (span_at q 0).at (span_at q 0).len → b ≡ part t (span_at q 1).at (span_at q 1).len
       → Gave (keeps c (record { identifier = a; rights = b })) n d → Gave (extension_on c t) n d
   unfolding extension_on
-  extension_accepted h i j g = let y : is_clean (read_all extension_form t).fault ≡ true = rw (← e) (flag_accepted f h) in simp y (rw (← e) (rw (i, j) at g))
+  extension_accepted h i j g = let y : is_clean (read_all extension_form t).fault ≡ true = rw (← e) (ap not (sym f ∙ h)) in simp y (rw (← e) (rw (i, j) at g))
 
 -- ---- the walk
 
 abbrev Starts : Head → Type 0
-Starts (Body start len) = 1 ≤ start
-Starts NoTag = Unit {0}
-Starts NoLength = Unit {0}
+Starts (Ok (start, len)) = 1 ≤ start
+Starts (Err NoTag) = Unit {0}
+Starts (Err NoLength) = Unit {0}
 
 past_starts : (h : Head) → Starts (past_by 1 h)
-past_starts (Body start len) = omega arith
-past_starts NoTag = tt
-past_starts NoLength = tt
+past_starts (Ok (start, len)) = omega arith
+past_starts (Err NoTag) = tt
+past_starts (Err NoLength) = tt
 
 head-starts : (s : List ℕ) → Starts (head_of 0x73 s)
 unfolding head_of
 head-starts s = if_else_ind Starts (ltb (length s) 1) (λ e. tt) (λ e. if_else_ind Starts (eqb (get_or s 0 0) 0x73) (λ f. past_starts (length_of (drop 1 s))) (λ f. tt))
 
--- the run s, put into c₀, gives what its rest from `at` on gives, put into c
-pub record Walking (c₀ s c : List ℕ) (at : ℕ) : Type 0 where
+-- the run s, put into c₀, gives what its rest gives, put into c
+pub record Walking (c₀ s c rest : List ℕ) : Type 0 where
   pub fuel : ℕ
-  pub enough : length s ≤ at + fuel
-  pub same : run_on c₀ s ≡ run_in fuel c (drop at s)
+  pub enough : length rest ≤ fuel
+  pub same : run_on c₀ s ≡ run_in fuel c rest
 
-pub walk_start : (c s : List ℕ) → Walking c s c 0
+pub walk_start : (c s : List ℕ) → Walking c s c s
 unfolding run_on
 walk_start c s = record { fuel = length s; enough = omega arith; same = refl }
 
-pub walk_end : {c₀ s c : List ℕ} {at : ℕ} → Walking c₀ s c at → length s ≤ at → run_on c₀ s ≡ whole c
-walk_end {c₀} {s} {c} {at} w h = w.same ∙ rw (drop_of_length-le s h) (run_end w.fuel c)
+pub walk_end : {c₀ s c rest : List ℕ} → Walking c₀ s c rest → length rest ≡ 0 → run_on c₀ s ≡ whole c
+walk_end {c₀} {s} {c} {rest} w h = w.same ∙ rw (none_left rest h) (run_end w.fuel c)
 
 -- one turn more is left
-record Turning (c₀ s c : List ℕ) (at : ℕ) : Type 0 where
+record Turning (c₀ s c rest : List ℕ) : Type 0 where
   less : ℕ
-  enough : length s ≤ at + suc less
-  same : run_on c₀ s ≡ on_front (head_of 0x73 (drop at s)) (λ start len. on_whole (extension_on c (part (drop at s) 0 (start + len))) (λ d. run_in less d (drop (start + len) (drop at s)))) (faulty Malformed c)
+  enough : length rest ≤ suc less
+  same : run_on c₀ s ≡ on_front (head_of 0x73 rest) (λ start len. on_whole (extension_on c (part rest 0 (start + len))) (λ d. run_in less d (drop (start + len) rest))) (faulty Malformed c)
 
-turning : {c₀ s c : List ℕ} {at : ℕ} (k : ℕ) → length s ≤ at + k → run_on c₀ s ≡ run_in k c (drop at s) → at < length s → Turning c₀ s c at
+turning : {c₀ s c rest : List ℕ} (k : ℕ) → length rest ≤ k → run_on c₀ s ≡ run_in k c rest → (length rest ≡ 0 → ⊥) → Turning c₀ s c rest
 unfolding run_in
-turning zero e f h = absurd (omega arith)
-turning {c₀} {s} {c} {at} (suc k) e f h = record { less = k; enough = e; same = f ∙ simp (ne_eqb (length (drop at s)) 0 (let l = length-drop at s in omega arith)) }
+turning zero e f h = absurd (h (omega arith))
+turning {c₀} {s} {c} {rest} (suc k) e f h = record { less = k; enough = e; same = f ∙ simp (ne_eqb (length rest) 0 h) }
 
-module _ {c₀ s c : List ℕ} {at : ℕ} (w : Walking c₀ s c at) (h : at < length s) {l : List ℕ} (el : l ≡ take (length s - at) (drop at s)) {f : Head} (ef : f ≡ head_of 0x73 l) where
-  turn : Turning c₀ s c at
+module _ {c₀ s c rest : List ℕ} (w : Walking c₀ s c rest) (h : length rest ≡ 0 → ⊥) {f : Head} (ef : f ≡ head_of 0x73 rest) where
+  turn : Turning c₀ s c rest
   turn = turning w.fuel w.enough w.same h
 
-  rest-is : l ≡ drop at s
-  rest-is = el ∙ rest at s
+  pub walk_bad : {g : HeadFault} → f ≡ Err g → run_on c₀ s ≡ faulty Malformed c
+  walk_bad e = turn.same ∙ rw (sym ef ∙ e) refl
 
-  front-is : head_of 0x73 (drop at s) ≡ f
-  front-is = rw (← rest-is) (sym ef)
-
-  pub walk_tag : f ≡ NoTag → run_on c₀ s ≡ faulty Malformed c
-  walk_tag e = turn.same ∙ rw (front-is ∙ e) refl
-
-  pub walk_length : f ≡ NoLength → run_on c₀ s ≡ faulty Malformed c
-  walk_length e = turn.same ∙ rw (front-is ∙ e) refl
-
-  module _ {start len : ℕ} (e : f ≡ Body start len) where
+  module _ {start len : ℕ} (e : f ≡ Ok (start, len)) where
     walk-starts : 1 ≤ start
-    walk-starts = subst Starts (front-is ∙ e) (head-starts (drop at s))
+    walk-starts = subst Starts (sym ef ∙ e) (head-starts rest)
 
-    pub walk_within : at + start + len ≤ length s
-    walk_within =
-        let i : HeadIn 5 (length (drop at s)) (Body start len) = subst (HeadIn 5 (length (drop at s))) (front-is ∙ e) (head_of_in 0x73 (drop at s)) in
-        let j = i.1 in
-        let m = length-drop at s in
-        omega arith
+    pub walk_within : start + len ≤ length rest
+    walk_within = let i : HeadIn 5 (length rest) (Ok (start, len)) = subst (HeadIn 5 (length rest)) (sym ef ∙ e) (head_of_in 0x73 rest) in i.1
 
     -- the measure falls
-    pub walk_less : length s - (at + start + len) < length s - at
-    walk_less = let a = walk-starts in let b = walk_within in omega arith
+    pub walk_less : {l : List ℕ} → l ≡ drop (start + len) rest → length l < length rest
+    walk_less {l} q = let a = walk-starts in let b = walk_within in let m = length-drop (start + len) rest in rw q (omega arith)
 
-    front_same : run_on c₀ s ≡ on_whole (extension_on c (part (drop at s) 0 (start + len))) (λ d. run_in turn.less d (drop (start + len) (drop at s)))
-    front_same = turn.same ∙ rw (front-is ∙ e) refl
+    front_same : run_on c₀ s ≡ on_whole (extension_on c (part rest 0 (start + len))) (λ d. run_in turn.less d (drop (start + len) rest))
+    front_same = turn.same ∙ rw (sym ef ∙ e) refl
 
-    module _ {p d : List ℕ} {n : RunRead} (ep : p ≡ part l 0 (start + len)) (g : Gave (extension_on c p) n d) {t : Bool} (et : t ≡ is_whole n) where
-      extension-is : extension_on c (part (drop at s) 0 (start + len)) ≡ record { read = n; bytes = d }
-      extension-is = rw (← rest-is, ← ep) (of_gave g)
+    module _ {p d : List ℕ} {n : RunRead} (ep : p ≡ part rest 0 (start + len)) (g : Gave (extension_on c p) n d) where
+      extension-is : extension_on c (part rest 0 (start + len)) ≡ record { read = n; bytes = d }
+      extension-is = rw (← ep) (of_gave g)
 
-      pub walk_stop : not t ≡ true → run_on c₀ s ≡ record { read = n; bytes = d }
-      walk_stop z = front_same ∙ rw extension-is (simp (flag_refused et z))
+      pub walk_stop : {v : ExtensionFault} → n ≡ Err v → run_on c₀ s ≡ faulty v d
+      walk_stop z = front_same ∙ rw (extension-is, z) refl
 
-      pub walk_next : not t ≡ false → Walking c₀ s d (at + start + len)
-      walk_next z =
+      pub walk_next : n ≡ Ok tt → {l : List ℕ} → l ≡ drop (start + len) rest → Walking c₀ s d l
+      walk_next z q =
           let a = walk-starts in
           let b = turn.enough in
-          record {
-            fuel = turn.less;
-            enough = omega arith;
-            same = front_same ∙ rw extension-is (simp (flag_accepted et z) (let i : at + (start + len) ≡ at + start + len = omega arith in rw (drop-drop (start + len) at s, i) refl));
-          }
+          let m = length-drop (start + len) rest in
+          rw q (record { fuel = turn.less; enough = omega arith; same = front_same ∙ rw (extension-is, z) refl })

@@ -8,8 +8,8 @@ use Rattle.objects_writer.specs.Writing.{tlv, tag_bytes, length_bytes}
 use Rattle.objects_reader.specs.Form.{read_form}
 use Rattle.objects_reader.specs.Head.{head_of, length_of}
 use Rattle.objects_extensions.specs.declared.ExtensionFault.TheVariants.{Malformed, Twice}
-use Rattle.objects_extensions.specs.declared.RunRead.TheVariants.{Whole, Faulty}
-use Rattle.objects_extensions.specs.declared.RightsRead.TheVariants.{Told, ShortBuffer}
+use Rattle.std.specs.Prelude.{Ok, Err}
+use Rattle.objects_extensions.specs.declared.RightsFault.TheVariants.{ShortBuffer, Faulty}
 use Rattle.objects_extensions.specs.Extensions.{extension_value, extension_data, run_data}
 use Rattle.objects_extensions.specs.Read.{whole, keeps_known, keeps, extension_on, run_in, run_on, empty_certificate, runs_on, chain_data, read_rights, read_rights_into}
 
@@ -52,37 +52,37 @@ unfolding run_on run_in
 none = refl
 
 -- a known one for the second time, with others between
-twice : (run_on empty_certificate (travel ++ (unknown ++ travel))).read ≡ Faulty Twice
+twice : (run_on empty_certificate (travel ++ (unknown ++ travel))).read ≡ Err Twice
 unfolding run_on run_in extension_on read_form head_of length_of keeps keeps_known same_bytes put put_fits
 twice = refl
 
 -- both faults at one extension: the size is told
-both : (run_on empty_certificate (travel ++ long)).read ≡ Faulty Malformed
+both : (run_on empty_certificate (travel ++ long)).read ≡ Err Malformed
 unfolding run_on run_in extension_on read_form head_of length_of keeps keeps_known same_bytes put put_fits
 both = refl
 
 -- the earlier extension is told
-earlier : (run_on empty_certificate (travel ++ (travel ++ long))).read ≡ Faulty Twice
+earlier : (run_on empty_certificate (travel ++ (travel ++ long))).read ≡ Err Twice
 unfolding run_on run_in extension_on read_form head_of length_of keeps keeps_known same_bytes put put_fits
 earlier = refl
 
 -- a byte behind the last
-surplus : (run_on empty_certificate (travel ++ (0x73 ∷ []))).read ≡ Faulty Malformed
+surplus : (run_on empty_certificate (travel ++ (0x73 ∷ []))).read ≡ Err Malformed
 unfolding run_on run_in extension_on read_form head_of length_of keeps keeps_known same_bytes put put_fits
 surplus = refl
 
 -- the second run is faulty: 60 zeros, though the first has rights, and the bytes behind them stay
-refused : (read_rights travel long [] (replicate 62 0xA5) ≡ Told (Faulty Malformed)) × (read_rights_into travel long [] (replicate 62 0xA5) ≡ replicate 60 0x00 ++ replicate 2 0xA5)
+refused : (read_rights travel long [] (replicate 62 0xA5) ≡ Err (Faulty Malformed)) × (read_rights_into travel long [] (replicate 62 0xA5) ≡ replicate 60 0x00 ++ replicate 2 0xA5)
 unfolding read_rights read_rights_into runs_on chain_data run_on run_in extension_on read_form head_of length_of keeps keeps_known same_bytes put put_fits
 refused = (refl, refl)
 
 -- three certificates, one of them without extensions
-accepted : (read_rights travel [] visa (replicate 60 0xA5) ≡ Told Whole)
+accepted : (read_rights travel [] visa (replicate 60 0xA5) ≡ Ok tt)
     × (read_rights_into travel [] visa (replicate 60 0xA5) ≡ 0x01 ∷ 0x0F ∷ replicate 38 0x00 ++ (0x02 ∷ 0x00 ∷ 0x05 ∷ replicate 17 0x00))
 unfolding read_rights read_rights_into runs_on chain_data run_on run_in extension_on read_form head_of length_of keeps keeps_known same_bytes put put_fits
 accepted = (refl, refl)
 
 -- a buffer of 59 bytes
-short : (read_rights travel travel travel (replicate 59 0xA5) ≡ ShortBuffer) × (read_rights_into travel travel travel (replicate 59 0xA5) ≡ replicate 59 0xA5)
+short : (read_rights travel travel travel (replicate 59 0xA5) ≡ Err ShortBuffer) × (read_rights_into travel travel travel (replicate 59 0xA5) ≡ replicate 59 0xA5)
 unfolding read_rights read_rights_into
 short = (refl, refl)

@@ -1,32 +1,23 @@
 -- What reading the rights of three runs answers, and what it writes: one extension after the other, into the 20 bytes of a certificate.
-use Rattle.std.specs.Prelude.{ℕ, zero, suc, ◌+◌, ◌/◌, ◌%◌, Bool, List, [], ◌∷◌, ◌++◌, length, get_or, drop, replicate, ltb, eqb}
+use Rattle.std.specs.Prelude.{ℕ, zero, suc, ◌+◌, ◌/◌, ◌%◌, Bool, List, [], ◌∷◌, ◌++◌, length, get_or, drop, replicate, ltb, eqb, Result, Ok, Err, is_ok}
 use Rattle.std.specs.Int.Bits.{bit_or}
 use Rattle.base.specs.Choice.{if_else}
 use Rattle.base.specs.Bytes.{part, put}
-use Rattle.objects_reader.specs.Head.{head_of}
+use Rattle.objects_reader.specs.Head.{head_of, Head}
 use Rattle.objects_reader.specs.Form.{Form, done, plain, nested, is_clean, read_all}
-use Rattle.objects_reader.specs.declared.head.Head.{Head}
-use Rattle.objects_reader.specs.declared.head.Head.TheVariants.{Body, NoTag, NoLength}
+use Rattle.objects_reader.specs.Places.{span_at}
 use Rattle.objects_reader.specs.declared.reader.Reading.{Reading}
 use Rattle.objects_extensions.specs.declared.Known.{Known}
 use Rattle.objects_extensions.specs.declared.Known.TheVariants.{Travel, Visa, Biometrics}
 use Rattle.objects_extensions.specs.declared.ExtensionFault.{ExtensionFault}
 use Rattle.objects_extensions.specs.declared.ExtensionFault.TheVariants.{Malformed, Twice}
-use Rattle.objects_extensions.specs.declared.RunRead.{RunRead}
-use Rattle.objects_extensions.specs.declared.RunRead.TheVariants.{Whole, Faulty}
-use Rattle.objects_extensions.specs.declared.RightsRead.{RightsRead}
-use Rattle.objects_extensions.specs.declared.RightsRead.TheVariants.{Told, ShortBuffer}
+use Rattle.objects_extensions.specs.declared.RightsFault.{RightsFault}
+use Rattle.objects_extensions.specs.declared.RightsFault.TheVariants.{ShortBuffer, Faulty}
 use Rattle.objects_extensions.specs.Extensions.{Extension, size_of, flag_of, is_for}
-use Rattle.objects_extensions.specs.Faults.{extension_fault_number}
 
--- the number of what comes of a run: 0 where it has no fault, else the fault's [CE8] [C2]
-abbrev pub run_number : RunRead → ℕ
-run_number Whole = 0
-run_number (Faulty w) = extension_fault_number w
-
--- no fault [CE8]
-abbrev pub is_whole : RunRead → Bool
-is_whole r = eqb (run_number r) 0
+-- what comes of a run: no fault, or that of its first extension that has one [CE8]
+abbrev pub RunRead : Type 0
+RunRead = Result (Unit {0}) ExtensionFault
 
 -- what comes of extensions, and the bytes that they gave so far: the 20 of a certificate, or of three runs without a fault all 60 [CE5] [CE8]
 pub record RunResult : Type 0 where
@@ -35,15 +26,15 @@ pub record RunResult : Type 0 where
 
 -- no fault yet [CE5]
 abbrev pub whole : List ℕ → RunResult
-whole c = record { read = Whole; bytes = c }
+whole c = record { read = Ok tt; bytes = c }
 
 -- a fault, and the bytes before it [CE8]
 abbrev pub faulty : ExtensionFault → List ℕ → RunResult
-faulty w c = record { read = Faulty w; bytes = c }
+faulty w c = record { read = Err w; bytes = c }
 
 -- what follows, where there is no fault yet [CE8]
 abbrev pub on_whole : RunResult → (List ℕ → RunResult) → RunResult
-on_whole r go = if_else (is_whole r.read) (go r.bytes) r
+on_whole r go = if_else (is_ok r.read) (go r.bytes) r
 
 -- ---- one extension
 
@@ -82,8 +73,8 @@ extension_form = nested 0x73 (plain 0x06 0 65535 (plain 0x53 0 65535 done)) done
 abbrev pub extension_at : List ℕ → Reading → Extension
 extension_at t q =
     record {
-      identifier = part t (get_or q.starts 0 0) (get_or q.lens 0 0);
-      rights = part t (get_or q.starts 1 0) (get_or q.lens 1 0);
+      identifier = part t (span_at q 0).at (span_at q 0).len;
+      rights = part t (span_at q 1).at (span_at q 1).len;
     }
 
 -- the bytes t of an extension, put into a certificate's bytes [CE1] [CE8]
@@ -94,9 +85,8 @@ extension_on c t = let q = read_all extension_form t in if_else (is_clean q.faul
 
 -- by the head of an extension: it stands there, or it does not [CE8]
 abbrev pub on_front : Head → (ℕ → ℕ → RunResult) → RunResult → RunResult
-on_front (Body start len) go bad = go start len
-on_front NoTag go bad = bad
-on_front NoLength go bad = bad
+on_front (Ok (start, len)) go bad = go start len
+on_front (Err f) go bad = bad
 
 -- at most k extensions of the run s, put into a certificate's bytes [CE2] [CE8]
 unfoldable pub run_in : ℕ → List ℕ → List ℕ → RunResult
@@ -122,11 +112,20 @@ runs_on first second third =
 
 -- the 60 bytes, zeros where there is a fault [CE7] [CE9]
 unfoldable pub chain_data : RunResult → List ℕ
-chain_data r = if_else (is_whole r.read) r.bytes (replicate 60 0)
+chain_data r = if_else (is_ok r.read) r.bytes (replicate 60 0)
+
+-- a buffer with the 60 bytes, where there is no fault; else it stays [CE7] [CE9]
+unfoldable pub runs_into : List ℕ → List ℕ → List ℕ → List ℕ → List ℕ
+runs_into first second third buf = if_else (is_ok (runs_on first second third).read) (put buf 0 (runs_on first second third).bytes) buf
+
+-- what comes of the runs, as an answer [CE10]
+abbrev pub rights_answer : RunRead → Result (Unit {0}) RightsFault
+rights_answer (Ok _) = Ok tt
+rights_answer (Err w) = Err (Faulty w)
 
 -- what is answered, where the buffer has 60 bytes [CE10]
-unfoldable pub read_rights : List ℕ → List ℕ → List ℕ → List ℕ → RightsRead
-read_rights first second third buf = if_else (ltb (length buf) 60) ShortBuffer (Told (runs_on first second third).read)
+unfoldable pub read_rights : List ℕ → List ℕ → List ℕ → List ℕ → Result (Unit {0}) RightsFault
+read_rights first second third buf = if_else (ltb (length buf) 60) (Err ShortBuffer) (rights_answer (runs_on first second third).read)
 
 -- and the buffer afterwards [CE7] [CE9] [CE10]
 unfoldable pub read_rights_into : List ℕ → List ℕ → List ℕ → List ℕ → List ℕ

@@ -7,10 +7,6 @@ use Rattle.objects_reader.proofs.head.header.Kinds as header-kinds
 use Rattle.objects_reader.proofs.head.header.Reads as header-reads
 use Rattle.objects_reader.proofs.number.number.Kinds as number-kinds
 use Rattle.objects_reader.proofs.number.number.Reads as number-reads
-use Rattle.objects_reader.proofs.number.wide.Kinds as wide-kinds
-use Rattle.objects_reader.proofs.number.wide.Reads as wide-reads
-use Rattle.objects_reader.proofs.reader.clean.Kinds as clean-kinds
-use Rattle.objects_reader.proofs.reader.clean.Reads as clean-reads
 use Rattle.objects_reader.proofs.reader.read_all.Kinds as read-all-kinds
 use Rattle.objects_reader.proofs.reader.read_all.Reads as read-all-reads
 use Rattle.objects_reader.proofs.reader.read.Kinds as read-kinds
@@ -24,12 +20,6 @@ header_determined κs a e f p q i = ((p ∙ sym q) i, e.1)
 
 pub number_determined : Determined number-kinds.ps number-kinds.r number-reads.Post
 number_determined κs a e f p q i = ((p ∙ sym q) i, e.1)
-
-pub wide_determined : Determined wide-kinds.ps wide-kinds.r wide-reads.Post
-wide_determined κs a e f p q i = ((p ∙ sym q) i, e.1)
-
-pub clean_determined : Determined clean-kinds.ps clean-kinds.r clean-reads.Post
-clean_determined κs a e f p q i = ((p ∙ sym q) i, e.1)
 
 pub read_all_determined : Determined read-all-kinds.ps read-all-kinds.r read-all-reads.Post
 read_all_determined κs a e f p q i = ((p ∙ sym q) i, e.1)

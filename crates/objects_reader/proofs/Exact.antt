@@ -15,14 +15,15 @@ use Rattle.base.specs.Bytes.{AllBytes}
 use Rattle.base.specs.Choice.{if_else}
 use Rattle.base.proofs.Cases.{by_cases, false-true}
 use Rattle.objects_writer.specs.Writing.{length_bytes, tag_bytes, tlv}
-use Rattle.objects_reader.specs.Head.{head_of}
-use Rattle.objects_reader.specs.Form.{Form, done, plain, maybe, nested, is_clean, fresh, spoilt, noted, on_head, of_size, on_value, read_form, read_all, read_by}
+use Rattle.objects_reader.specs.Head.{head_of, Head}
+use Rattle.objects_reader.specs.Form.{Form, done, plain, maybe, nested, is_clean, nowhere, fresh, spoilt, noted, on_head, of_size, on_value, read_form, read_all, read_by}
 use Rattle.objects_reader.specs.Encoding.{Perhaps, absent, present, perhaps, Values, encode, value_of, SizedP, Sized, leaves, place_of, places_at, leaf_count, deep, Follows, Proper}
 use Rattle.objects_reader.specs.Places.{place_pairs, Placed, Noted, Parsed}
-use Rattle.objects_reader.specs.declared.head.Head.{Head}
-use Rattle.objects_reader.specs.declared.head.Head.TheVariants.{Body, NoTag, NoLength}
+use Rattle.objects_reader.specs.declared.head.HeadFault.TheVariants.{NoTag, NoLength}
+use Rattle.std.specs.Prelude.{Ok, Err}
 use Rattle.objects_reader.specs.declared.reader.Fault.TheVariants.{Tag, Length}
 use Rattle.objects_reader.specs.declared.reader.Reading.{Reading}
+use Rattle.objects_reader.specs.declared.reader.Span.{Span}
 use Rattle.objects_reader.proofs.Heads.{head_size, Begins, head_of_sound}
 use Rattle.objects_reader.proofs.Sayable.{AllSayable, short_sayable}
 use Rattle.objects_reader.proofs.Unique.{length-tlv, object_head, object_value, object_rest, follows_head}
@@ -73,48 +74,46 @@ placed-none : (s : List ℕ) → Placed s 0 0 []
 placed-none s = record { inside = omega arith; size = refl; is = refl }
 
 -- a place that is noted behind the first k is none of them
-pairs_set : (a b : List ℕ) (n x y k : ℕ) → k ≤ n → place_pairs (set a n x) (set b n y) k ≡ place_pairs a b k
+pairs_set : (ps : List Span) (n : ℕ) (p : Span) (k : ℕ) → k ≤ n → place_pairs (set ps n p) k ≡ place_pairs ps k
 unfolding place_pairs
-pairs_set a b n x y zero h = refl
-pairs_set a b n x y (suc k) h =
-    simp (pairs_set a b n x y k (omega arith), get_or-set_other a n k x 0 (omega arith), get_or-set_other b n k y 0 (omega arith))
+pairs_set ps n p zero h = refl
+pairs_set ps n p (suc k) h = simp (pairs_set ps n p k (omega arith), get_or-set_other ps n k p nowhere (omega arith))
 
 -- r notes the values vs, and ps are all the places that it notes
 record NotedAt (s : List ℕ) (r : Reading) (vs : List (List ℕ)) (ps : List ℕ) : Type 0 where
   is : Noted s r vs
-  at : place_pairs r.starts r.lens r.n ≡ ps
+  at : place_pairs r.places r.n ≡ ps
 
 note_at : {s : List ℕ} {r : Reading} {vs : List (List ℕ)} {ps : List ℕ} (start len : ℕ) → length vs < 13 → NotedAt s r vs ps
-    → place_pairs (noted r start len).starts (noted r start len).lens (noted r start len).n ≡ ps ++ (start ∷ len ∷ [])
+    → place_pairs (noted r start len).places (noted r start len).n ≡ ps ++ (start ∷ len ∷ [])
 unfolding place_pairs
 note_at {s} {r} {vs} {ps} start len h m =
     let c = m.is.count in
-    let a = m.is.starts in
-    let b = m.is.lens in
+    let a = m.is.places in
+    let p : Span = record { at = start; len = len } in
     let e : r.n + 1 ≡ suc r.n = omega arith in
     simp (lt-ltb r.n 13 (omega arith))
-    (rw (e, pairs_set r.starts r.lens r.n start len r.n (omega arith), get_or-set_same r.starts r.n start 0 (omega arith), get_or-set_same r.lens r.n len 0 (omega arith), m.at) refl)
+    (rw (e, pairs_set r.places r.n p r.n (omega arith), get_or-set_same r.places r.n p nowhere (omega arith), m.at) refl)
 
 note_one : {s : List ℕ} {r : Reading} {vs : List (List ℕ)} {start len : ℕ} {v : List ℕ} → length vs < 13 → Noted s r vs → Placed s start len v → Noted s (noted r start len) (vs ++ (v ∷ []))
 note_one {s} {r} {vs} {start} {len} {v} h m p =
     let c = m.count in
-    let a = m.starts in
-    let b = m.lens in
+    let a = m.places in
+    let q : Span = record { at = start; len = len } in
     let e = length-append vs (v ∷ []) in
     let t = lt-ltb r.n 13 (omega arith) in
     record {
       clean = simp t m.clean;
       count = simp t (omega arith);
-      starts = simp (t, length-set) a;
-      lens = simp (t, length-set) b;
+      places = simp (t, length-set) a;
       each = λ k i. simp t
           (by_cases (ltb k (length vs))
           (λ f. let l = ltb-true k (length vs) f in
-          simp (get_or-set_other r.starts r.n k start 0 (omega arith), get_or-set_other r.lens r.n k len 0 (omega arith), get_or-append vs (v ∷ []) [] k l) (m.each k l))
+          simp (get_or-set_other r.places r.n k q nowhere (omega arith), get_or-append vs (v ∷ []) [] k l) (m.each k l))
           (λ f. let l = ltb-false k (length vs) f in
           let n : k ≡ r.n = omega arith in
           let n' : r.n ≡ length vs = c in
-          rw n (simp (get_or-set_same r.starts r.n start 0 (omega arith), get_or-set_same r.lens r.n len 0 (omega arith)) (rw n' (simp (get_or-append_seam vs v [] []) p)))));
+          rw n (simp (get_or-set_same r.places r.n q nowhere (omega arith)) (rw n' (simp (get_or-append_seam vs v [] []) p)))));
     }
 
 note_next : {s : List ℕ} {r : Reading} {vs : List (List ℕ)} {ps : List ℕ} {start len : ℕ} {v : List ℕ} → length vs < 13 → NotedAt s r vs ps → Placed s start len v
@@ -218,9 +217,9 @@ module _ (t lo hi : ℕ) (f : Form) (d : ℕ) (ih : Sound f d) (base : ℕ) (s :
   sound-head : (h : Head) → head_of t s ≡ h
       → is_clean (on_head h (λ start len. of_size lo hi len (read_form f d (base + (start + len)) (drop (start + len) s) (noted r (base + start) len)) (spoilt r Length base)) none (spoilt r Length base)).fault ≡ true
       → (is_clean none.fault ≡ true) ⊎ Value t lo hi f d s
-  sound-head NoTag e c = inl c
-  sound-head NoLength e c = false-true c
-  sound-head (Body k n) e c =
+  sound-head (Err NoTag) e c = inl c
+  sound-head (Err NoLength) e c = false-true c
+  sound-head (Ok (k, n)) e c =
       by_cases (ltb n lo) (λ x. false-true (simp x at c)) (λ x.
       by_cases (ltb hi n) (λ y. false-true (simp (x, y) at c)) (λ y.
       let w = head_of_sound t s k n b e in
@@ -250,9 +249,9 @@ sound_nested : (t : ℕ) (g f : Form) (d : ℕ) → Sound g (d - 1) → Sound f 
     → is_clean (on_head h (λ start len. let q = read_form g (d - 1) (base + start) (take len (drop start s)) r in
     if_else (is_clean q.fault) (read_form f d (base + (start + len)) (drop (start + len) s) q) q) (spoilt r Tag base) (spoilt r Length base)).fault ≡ true → Found (nested t g f) d s
 unfolding encode deep Sized AllSayable
-sound_nested t g f d ig ih base s r b m NoTag e c = false-true c
-sound_nested t g f d ig ih base s r b m NoLength e c = false-true c
-sound_nested t g f d ig ih base s r b m (Body k n) e c =
+sound_nested t g f d ig ih base s r b m (Err NoTag) e c = false-true c
+sound_nested t g f d ig ih base s r b m (Err NoLength) e c = false-true c
+sound_nested t g f d ig ih base s r b m (Ok (k, n)) e c =
     let a = take n (drop k s) in
     let q = read_form g (d - 1) (base + k) a r in
     by_cases (is_clean q.fault)
@@ -307,7 +306,7 @@ count-leaves (maybe t lo hi f) v = ap suc (count-leaves f v.1)
 count-leaves (nested t g f) v = length-append (leaves g v.0) (leaves f v.1) ∙ cc (count-leaves g v.0, count-leaves f v.1)
 
 fresh_notes : (s : List ℕ) → Noted s fresh []
-fresh_notes s = record { clean = refl; count = refl; starts = refl; lens = refl; each = λ k h. absurd (omega arith) }
+fresh_notes s = record { clean = refl; count = refl; places = refl; each = λ k h. absurd (omega arith) }
 
 module _ (f : Form) (p : Proper f) (few : leaf_count f ≤ 13) where
   -- every writing is read clean, and its values are noted, where they stand
@@ -322,7 +321,7 @@ module _ (f : Form) (p : Proper f) (few : leaf_count f ≤ 13) where
     pub all_complete : Noted (encode f v) (read_all f (encode f v)) (leaves f v)
     all_complete = all-at.is
 
-    pub all_places : place_pairs (read_all f (encode f v)).starts (read_all f (encode f v)).lens (leaf_count f) ≡ places_at f v 0
+    pub all_places : place_pairs (read_all f (encode f v)).places (leaf_count f) ≡ places_at f v 0
     all_places =
         let r = read_all f (encode f v) in
         rw (← (all-at.is.count ∙ count-leaves f v)) all-at.at

@@ -14,10 +14,10 @@ use Rattle.base.specs.Bytes.{AllBytes}
 use Rattle.base.specs.Choice.{if_else}
 use Rattle.base.proofs.Cases.{by_cases, if_else_ind}
 use Rattle.objects_writer.specs.Writing.{length_bytes, tag_bytes}
-use Rattle.objects_reader.specs.Head.{body_in, length_of, head_of, past_by}
+use Rattle.objects_reader.specs.Head.{body_in, length_of, head_of, past_by, Head}
 use Rattle.objects_reader.specs.Encoding.{apart}
-use Rattle.objects_reader.specs.declared.head.Head.{Head}
-use Rattle.objects_reader.specs.declared.head.Head.TheVariants.{Body, NoTag, NoLength}
+use Rattle.objects_reader.specs.declared.head.HeadFault.TheVariants.{NoTag, NoLength}
+use Rattle.std.specs.Prelude.{Ok, Err}
 
 -- the bytes of an object before its value
 abbrev pub head_size : ℕ → ℕ → ℕ
@@ -37,35 +37,45 @@ unfolding length_bytes
 bytes-long n p = simp (le-ltb n 128 (omega arith), le-ltb n 256 p)
 
 -- each form is read
-read_short : (n : ℕ) (v : List ℕ) → n < 128 → n ≤ length v → length_of (n ∷ v) ≡ Body 1 n
+abbrev at_place : ℕ → ℕ → Head
+at_place k n = Ok (k, n)
+
+read_short : (n : ℕ) (v : List ℕ) → n < 128 → n ≤ length v → length_of (n ∷ v) ≡ Ok (1, n)
 unfolding length_of
 read_short n v p q = simp (le-ltb (suc (length v)) 1 (omega arith), lt-ltb n 128 p, le-ltb n 0 (omega arith), le-leb n (suc (length v) - 1) (omega arith))
 
-read_mid : (n : ℕ) (v : List ℕ) → 128 ≤ n → n ≤ length v → length_of (129 ∷ n ∷ v) ≡ Body 2 n
+read_mid : (n : ℕ) (v : List ℕ) → 128 ≤ n → n ≤ length v → length_of (129 ∷ n ∷ v) ≡ Ok (2, n)
 unfolding length_of
 read_mid n v p q = simp (le-ltb (suc (suc (length v))) 1 (omega arith), le-ltb (suc (suc (length v))) 2 (omega arith), le-ltb n 128 p, le-leb n (suc (suc (length v)) - 2) (omega arith))
 
-read-long : (a b : ℕ) (v : List ℕ) → 256 ≤ a * 256 + b → a * 256 + b ≤ length v → length_of (130 ∷ a ∷ b ∷ v) ≡ Body 3 (a * 256 + b)
+read-long : (a b : ℕ) (v : List ℕ) → 256 ≤ a * 256 + b → a * 256 + b ≤ length v → length_of (130 ∷ a ∷ b ∷ v) ≡ Ok (3, a * 256 + b)
 unfolding length_of
 read-long a b v p q = simp (le-ltb (suc (suc (suc (length v)))) 1 (omega arith), le-ltb (suc (suc (suc (length v)))) 3 (omega arith), le-ltb (a * 256 + b) 256 p, le-leb (a * 256 + b) (suc (suc (suc (length v))) - 3) (omega arith))
 
-pub length_of_complete : (n : ℕ) (v : List ℕ) → n < 65536 → n ≤ length v → length_of (length_bytes n ++ v) ≡ Body (length (length_bytes n)) n
+pub length_of_complete : (n : ℕ) (v : List ℕ) → n < 65536 → n ≤ length v → length_of (length_bytes n ++ v) ≡ Ok (length (length_bytes n), n)
 length_of_complete n v p q =
     by_cases (ltb n 128)
     (λ e. rw (bytes-short n (ltb-true n 128 e)) (read_short n v (ltb-true n 128 e) q))
     (λ e. by_cases (ltb n 256)
     (λ f. rw (bytes_mid n (ltb-false n 128 e) (ltb-true n 256 f)) (read_mid n v (ltb-false n 128 e) q))
     (λ f. let h = ltb-false n 256 f in rw (bytes-long n h)
-    (read-long (n / 256) (n % 256) v (omega arith) (omega arith) ∙ ap (Body 3) (omega arith))))
+    (read-long (n / 256) (n % 256) v (omega arith) (omega arith) ∙ ap (at_place 3) (omega arith))))
 
 -- what was read was so written
-body_inv : (s : List ℕ) (k least n k' n' : ℕ) → body_in s k least n ≡ Body k' n' → (k ≡ k') × (n ≡ n') × (least ≤ n) × (n ≤ length s - k)
+abbrev place_of : Head → ℕ × ℕ
+place_of (Ok (k, n)) = (k, n)
+place_of (Err f) = (0, 0)
+
+pub same_place : {k n k' n' : ℕ} → ◌≡◌ {A = Head} (Ok (k, n)) (Ok (k', n')) → (k ≡ k') × (n ≡ n')
+same_place e = (ap (λ (h : Head). (place_of h).0) e, ap (λ (h : Head). (place_of h).1) e)
+
+body_inv : (s : List ℕ) (k least n k' n' : ℕ) → body_in s k least n ≡ Ok (k', n') → (k ≡ k') × (n ≡ n') × (least ≤ n) × (n ≤ length s - k)
 body_inv s k least n k' n' p =
     by_cases (ltb n least)
-    (λ e. let q : NoLength ≡ Body k' n' = simp e at p in let z : ◌≡◌ {A = ℕ} 0 1 = cc in omega arith)
+    (λ e. let q : Err NoLength ≡ Ok (k', n') = simp e at p in let z : ◌≡◌ {A = ℕ} 0 1 = cc in omega arith)
     (λ e. by_cases (leb n (length s - k))
-    (λ f. let q : Body k n ≡ Body k' n' = simp (e, f) at p in ((cc), (cc), ltb-false n least e, leb-true n (length s - k) f))
-    (λ f. let q : NoLength ≡ Body k' n' = simp (e, f) at p in let z : ◌≡◌ {A = ℕ} 0 1 = cc in omega arith))
+    (λ f. let i = same_place (simp (e, f) at p) in (i.0, i.1, ltb-false n least e, leb-true n (length s - k) f))
+    (λ f. let q : Err NoLength ≡ Ok (k', n') = simp (e, f) at p in let z : ◌≡◌ {A = ℕ} 0 1 = cc in omega arith))
 
 -- s begins with pre, of k bytes, and has n bytes behind it
 pub record Begins (pre s : List ℕ) (k n : ℕ) : Type 0 where
@@ -77,13 +87,13 @@ pub record Begins (pre s : List ℕ) (k n : ℕ) : Type 0 where
 abbrev LengthAt : List ℕ → ℕ → ℕ → Type 0
 LengthAt s k n = Begins (length_bytes n) s k n
 
-no_body : {A : Type 0} {k n : ℕ} → NoLength ≡ Body k n → A
+no_body : {A : Type 0} {k n : ℕ} → ◌≡◌ {A = Head} (Err NoLength) (Ok (k, n)) → A
 no_body {A} {k} {n} q = let z : ◌≡◌ {A = ℕ} 0 1 = cc in absurd (omega arith)
 
-at_body : (s : List ℕ) (k least n k' n' : ℕ) → (least ≤ n → n ≤ length s - k → LengthAt s k n) → body_in s k least n ≡ Body k' n' → LengthAt s k' n'
+at_body : (s : List ℕ) (k least n k' n' : ℕ) → (least ≤ n → n ≤ length s - k → LengthAt s k n) → body_in s k least n ≡ Ok (k', n') → LengthAt s k' n'
 at_body s k least n k' n' f p = let i = body_inv s k least n k' n' p in subst₂ (LengthAt s) i.0 i.1 (f i.2 i.3)
 
-mid_inv : (a : ℕ) (r : List ℕ) (k n : ℕ) → AllBytes r → a ≡ 129 → if_else (ltb (length (a ∷ r)) 2) NoLength (body_in (a ∷ r) 2 128 (get_or (a ∷ r) 1 0)) ≡ Body k n → LengthAt (a ∷ r) k n
+mid_inv : (a : ℕ) (r : List ℕ) (k n : ℕ) → AllBytes r → a ≡ 129 → if_else (ltb (length (a ∷ r)) 2) (Err NoLength) (body_in (a ∷ r) 2 128 (get_or (a ∷ r) 1 0)) ≡ Ok (k, n) → LengthAt (a ∷ r) k n
 unfolding AllBytes
 mid_inv a [] k n b e p = no_body p
 mid_inv a (c ∷ r) k n b e p =
@@ -96,7 +106,7 @@ mid_inv a (c ∷ r) k n b e p =
     })
     (simp (le-ltb (suc (suc (length r))) 2 (omega arith)) at p)
 
-long_inv : (a : ℕ) (r : List ℕ) (k n : ℕ) → AllBytes r → a ≡ 130 → if_else (ltb (length (a ∷ r)) 3) NoLength (body_in (a ∷ r) 3 256 (get_or (a ∷ r) 1 0 * 256 + get_or (a ∷ r) 2 0)) ≡ Body k n → LengthAt (a ∷ r) k n
+long_inv : (a : ℕ) (r : List ℕ) (k n : ℕ) → AllBytes r → a ≡ 130 → if_else (ltb (length (a ∷ r)) 3) (Err NoLength) (body_in (a ∷ r) 3 256 (get_or (a ∷ r) 1 0 * 256 + get_or (a ∷ r) 2 0)) ≡ Ok (k, n) → LengthAt (a ∷ r) k n
 unfolding AllBytes
 long_inv a [] k n b e p = no_body p
 long_inv a (c ∷ []) k n b e p = no_body p
@@ -117,7 +127,7 @@ bytes_tail : (a : ℕ) (r : List ℕ) → AllBytes (a ∷ r) → AllBytes r
 unfolding AllBytes
 bytes_tail a r b i = b (suc i)
 
-pub length_of_sound : (s : List ℕ) (k n : ℕ) → AllBytes s → length_of s ≡ Body k n → LengthAt s k n
+pub length_of_sound : (s : List ℕ) (k n : ℕ) → AllBytes s → length_of s ≡ Ok (k, n) → LengthAt s k n
 unfolding length_of AllBytes
 length_of_sound [] k n b p = no_body p
 length_of_sound (a ∷ r) k n b p =
@@ -146,7 +156,7 @@ tag-long : (t : ℕ) → 256 ≤ t → tag_bytes t ≡ t / 256 ∷ t % 256 ∷ [
 unfolding tag_bytes
 tag-long t p = simp (le-ltb t 256 p)
 
-pub head_of_complete : (t n : ℕ) (v : List ℕ) → t < 65536 → n < 65536 → n ≤ length v → head_of t (tag_bytes t ++ (length_bytes n ++ v)) ≡ Body (head_size t n) n
+pub head_of_complete : (t n : ℕ) (v : List ℕ) → t < 65536 → n < 65536 → n ≤ length v → head_of t (tag_bytes t ++ (length_bytes n ++ v)) ≡ Ok (head_size t n, n)
 unfolding head_of
 head_of_complete t n v o p q =
     by_cases (ltb t 256)
@@ -155,18 +165,18 @@ head_of_complete t n v o p q =
     (λ e. let h = ltb-false t 256 e in rw (tag-long t h)
     (simp (e, le-ltb (suc (suc (length (length_bytes n ++ v)))) 2 (omega arith), eq-eqb (t / 256 * 256 + t % 256) t (omega arith)) (ap (past_by 2) (length_of_complete n v p q))))
 
-past_inv : (j : ℕ) (h : Head) (k n : ℕ) → past_by j h ≡ Body k n → (m : ℕ) × (h ≡ Body m n) × (j + m ≡ k)
-past_inv j (Body m l) k n p = (m, (cc), (cc))
-past_inv j NoTag k n p = let z : ◌≡◌ {A = ℕ} 0 1 = cc in absurd (omega arith)
-past_inv j NoLength k n p = let z : ◌≡◌ {A = ℕ} 0 1 = cc in absurd (omega arith)
+past_inv : (j : ℕ) (h : Head) (k n : ℕ) → past_by j h ≡ Ok (k, n) → (m : ℕ) × (h ≡ Ok (m, n)) × (j + m ≡ k)
+past_inv j (Ok (m, l)) k n p = let i = same_place p in (m, ap (at_place m) i.1, i.0)
+past_inv j (Err NoTag) k n p = let z : ◌≡◌ {A = ℕ} 0 1 = cc in absurd (omega arith)
+past_inv j (Err NoLength) k n p = let z : ◌≡◌ {A = ℕ} 0 1 = cc in absurd (omega arith)
 
-no_tag : {A : Type 0} {k n : ℕ} → NoTag ≡ Body k n → A
+no_tag : {A : Type 0} {k n : ℕ} → ◌≡◌ {A = Head} (Err NoTag) (Ok (k, n)) → A
 no_tag {A} {k} {n} q = let z : ◌≡◌ {A = ℕ} 0 1 = cc in absurd (omega arith)
 
 abbrev HeadAt : ℕ → List ℕ → ℕ → ℕ → Type 0
 HeadAt t s k n = Begins (tag_bytes t ++ length_bytes n) s k n
 
-one_inv : (t a : ℕ) (r : List ℕ) (k n : ℕ) → AllBytes r → t < 256 → a ≡ t → past_by 1 (length_of r) ≡ Body k n → HeadAt t (a ∷ r) k n
+one_inv : (t a : ℕ) (r : List ℕ) (k n : ℕ) → AllBytes r → t < 256 → a ≡ t → past_by 1 (length_of r) ≡ Ok (k, n) → HeadAt t (a ∷ r) k n
 one_inv t a r k n b h e p =
     let i = past_inv 1 (length_of r) k n p in
     let m = i.0 in
@@ -178,7 +188,7 @@ one_inv t a r k n b h e p =
       short = w.short;
     })
 
-two_inv : (t a b : ℕ) (r : List ℕ) (k n : ℕ) → AllBytes r → b < 256 → 256 ≤ t → a * 256 + b ≡ t → past_by 2 (length_of r) ≡ Body k n → HeadAt t (a ∷ b ∷ r) k n
+two_inv : (t a b : ℕ) (r : List ℕ) (k n : ℕ) → AllBytes r → b < 256 → 256 ≤ t → a * 256 + b ≡ t → past_by 2 (length_of r) ≡ Ok (k, n) → HeadAt t (a ∷ b ∷ r) k n
 two_inv t a b r k n bs h g e p =
     let i = past_inv 2 (length_of r) k n p in
     let m = i.0 in
@@ -192,11 +202,11 @@ two_inv t a b r k n bs h g e p =
       short = w.short;
     })
 
-pub head_of_sound : (t : ℕ) (s : List ℕ) (k n : ℕ) → AllBytes s → head_of t s ≡ Body k n → HeadAt t s k n
+pub head_of_sound : (t : ℕ) (s : List ℕ) (k n : ℕ) → AllBytes s → head_of t s ≡ Ok (k, n) → HeadAt t s k n
 unfolding head_of AllBytes
 head_of_sound t s k n b p = by_cases (ltb t 256) (λ e. one s b (ltb-true t 256 e) (simp e at p)) (λ e. two s b (ltb-false t 256 e) (simp e at p))
   where
-    one : (s : List ℕ) → AllBytes s → t < 256 → if_else (ltb (length s) 1) NoTag (if_else (eqb (get_or s 0 0) t) (past_by 1 (length_of (drop 1 s))) NoTag) ≡ Body k n → HeadAt t s k n
+    one : (s : List ℕ) → AllBytes s → t < 256 → if_else (ltb (length s) 1) (Err NoTag) (if_else (eqb (get_or s 0 0) t) (past_by 1 (length_of (drop 1 s))) (Err NoTag)) ≡ Ok (k, n) → HeadAt t s k n
     one [] b h p = no_tag p
     one (a ∷ r) b h p =
         let z = le-ltb (suc (length r)) 1 (omega arith) in
@@ -204,7 +214,7 @@ head_of_sound t s k n b p = by_cases (ltb t 256) (λ e. one s b (ltb-true t 256 
         (λ e. one_inv t a r k n (bytes_tail a r b) h (eqb-true a t e) (simp (z, e) at p))
         (λ e. no_tag (simp (z, e) at p))
 
-    two : (s : List ℕ) → AllBytes s → 256 ≤ t → if_else (ltb (length s) 2) NoTag (if_else (eqb (get_or s 0 0 * 256 + get_or s 1 0) t) (past_by 2 (length_of (drop 2 s))) NoTag) ≡ Body k n → HeadAt t s k n
+    two : (s : List ℕ) → AllBytes s → 256 ≤ t → if_else (ltb (length s) 2) (Err NoTag) (if_else (eqb (get_or s 0 0 * 256 + get_or s 1 0) t) (past_by 2 (length_of (drop 2 s))) (Err NoTag)) ≡ Ok (k, n) → HeadAt t s k n
     two [] b h p = no_tag p
     two (a ∷ []) b h p = no_tag p
     two (a ∷ c ∷ r) b h p =
@@ -229,7 +239,7 @@ first_of n =
     (λ f. record { byte = 130; more = n / 256 ∷ n % 256 ∷ []; is = bytes-long n (ltb-false n 256 f); small = omega arith }))
 
 -- an object whose tag is apart from t is no object of tag t
-pub head_of_apart : (t t' n : ℕ) (v : List ℕ) → apart t t' ≡ true → head_of t (tag_bytes t' ++ (length_bytes n ++ v)) ≡ NoTag
+pub head_of_apart : (t t' n : ℕ) (v : List ℕ) → apart t t' ≡ true → head_of t (tag_bytes t' ++ (length_bytes n ++ v)) ≡ Err NoTag
 unfolding head_of
 head_of_apart t t' n v a =
     by_cases (ltb t 256)
@@ -248,7 +258,7 @@ head_of_apart t t' n v a =
     rw (tag-long t' (ltb-false t' 256 f))
     (simp (e, le-ltb (suc (suc (length (length_bytes n ++ v)))) 2 (omega arith), ne_eqb (t' / 256 * 256 + t' % 256) t (λ q. y (omega arith))))))
 
-pub head_of_empty : (t : ℕ) → head_of t [] ≡ NoTag
+pub head_of_empty : (t : ℕ) → head_of t [] ≡ Err NoTag
 unfolding head_of
 head_of_empty t = by_cases (ltb t 256) (λ e. simp e) (λ e. simp e)
 

@@ -9,15 +9,15 @@ use lib.Dec.{lit≤, ltb, leb, eqb}
 use borrow.Author.Tests.{ltb-false, leb-true}
 use Rattle.base.proofs.Cases.{if_else_ind}
 use Rattle.base.proofs.Parts.{rest}
-use Rattle.objects_reader.specs.Head.{body_in, length_of, head_of, past_by}
-use Rattle.objects_reader.specs.declared.head.Head.{Head}
-use Rattle.objects_reader.specs.declared.head.Head.TheVariants.{Body, NoTag, NoLength}
+use Rattle.objects_reader.specs.Head.{body_in, length_of, head_of, past_by, Head}
+use Rattle.objects_reader.specs.declared.head.HeadFault.TheVariants.{NoTag, NoLength}
+use Rattle.std.specs.Prelude.{Ok, Err}
 
 -- an object lies within its part of n bytes, behind a head of k bytes at most
 abbrev pub HeadIn : ℕ → ℕ → Head → Type 0
-HeadIn k n (Body start len) = (start ≤ k) × (start + len ≤ n)
-HeadIn k n NoTag = Unit {0}
-HeadIn k n NoLength = Unit {0}
+HeadIn k n (Ok (start, len)) = (start ≤ k) × (start + len ≤ n)
+HeadIn k n (Err NoTag) = Unit {0}
+HeadIn k n (Err NoLength) = Unit {0}
 
 body-in : (s : List ℕ) (k least n : ℕ) → k ≤ 3 → k ≤ length s → HeadIn 3 (length s) (body_in s k least n)
 body-in s k least n q h =
@@ -40,13 +40,13 @@ length_of_in s =
 pub length_of_past : (s : List ℕ) (k : ℕ) {h h' : Head} → h ≡ length_of (take (length s - k) (drop k s)) → h ≡ h' → past_by k h' ≡ past_by k (length_of (drop k s))
 length_of_past s k p q = ap (past_by k) (sym q ∙ p ∙ ap length_of (rest k s))
 
-pub length_of_small : (s : List ℕ) {h : Head} {start len : ℕ} → h ≡ length_of s → h ≡ Body start len → start ≤ 3
-length_of_small s {h} {start} {len} p q = let i : HeadIn 3 (length s) (Body start len) = subst (HeadIn 3 (length s)) (sym p ∙ q) (length_of_in s) in i.0
+pub length_of_small : (s : List ℕ) {h : Head} {start len : ℕ} → h ≡ length_of s → h ≡ Ok (start, len) → start ≤ 3
+length_of_small s {h} {start} {len} p q = let i : HeadIn 3 (length s) (Ok (start, len)) = subst (HeadIn 3 (length s)) (sym p ∙ q) (length_of_in s) in i.0
 
 past_in : (k n : ℕ) (h : Head) → k ≤ 2 → k ≤ n → HeadIn 3 (n - k) h → HeadIn 5 n (past_by k h)
-past_in k n (Body start len) q p i = omega arith
-past_in k n NoTag q p i = tt
-past_in k n NoLength q p i = tt
+past_in k n (Ok (start, len)) q p i = omega arith
+past_in k n (Err NoTag) q p i = tt
+past_in k n (Err NoLength) q p i = tt
 
 pub head_of_in : (tag : ℕ) (s : List ℕ) → HeadIn 5 (length s) (head_of tag s)
 unfolding head_of

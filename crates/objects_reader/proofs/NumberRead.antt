@@ -1,14 +1,15 @@
 -- A number is read from its bytes one at a time. Read before: specs/Places.antt. Exports `big_more` and `more_bits` (one byte more) and
--- `number_in_end`, `number_in_eight`, `number_in_whole` (what is read at the end).
+-- `eight`, `number_in_end`, `number_in_whole` (what is read at the end).
 use Prim.Native.Nat.{ℕ, ◌+◌, ◌*◌, ◌^◌, ◌≤◌, ◌<◌}
 use mathlib.Core.Path.{◌≡◌, refl, sym, ap, ◌∙◌}
 use mathlib.Core.List.{List, [], ◌∷◌, ◌++◌}
 use native.Mathlib.Omega.{arith}
 use native.Mathlib.Numerals.{add-one}
-use lib.ListN.{length, take, get_or}
+use lib.ListN.{length, take, get_or, length-take}
 use lib.Seq.{take-suc, take_all}
 use native.Mathlib.Nat.{lt_of_lt_of_le}
 use lib.Pow.{pow-add, pow_mono}
+use Rattle.base.specs.Bytes.{part}
 use Rattle.objects_writer.specs.Number.{big_from, big}
 use Rattle.objects_reader.specs.Places.{number_in}
 
@@ -30,15 +31,14 @@ more_bits i n b p q =
     let e : 8 * (i + 1) ≡ 8 * i + 8 = omega arith in
     rw (e, pow-add 2 (8 * i) 8) (omega arith)
 
--- all bytes are read
-pub number_in_end : (v : List ℕ) (n i : ℕ) → n ≡ big (take i v) → i ≤ 8 → length v ≤ i → n ≡ number_in v
-unfolding number_in
-number_in_end v n i e h k = e ∙ ap big (take_all i v k ∙ sym (take_all 8 v (omega arith)))
+-- the first eight bytes w of v: no more than eight, and when all of them are read, that is the number in v
+module _ (v w : List ℕ) (p : w ≡ part v 0 8) where
+  pub eight : length w ≤ 8
+  eight = rw p (simp length-take (omega arith))
 
--- eight bytes are read
-pub number_in_eight : (v : List ℕ) (n i : ℕ) → n ≡ big (take i v) → i ≤ 8 → 8 ≤ i → n ≡ number_in v
-unfolding number_in
-number_in_eight v n i e h k = let z : i ≡ 8 = omega arith in e ∙ ap (λ (j : ℕ). big (take j v)) z
+  pub number_in_end : (n i : ℕ) → n ≡ big (take i w) → length w ≤ i → n ≡ number_in v
+  unfolding number_in
+  number_in_end n i e h = e ∙ ap big (take_all i w h ∙ p)
 
 -- a value of up to eight bytes is read whole
 pub number_in_whole : (v : List ℕ) → length v ≤ 8 → number_in v ≡ big v

@@ -14,10 +14,10 @@ use Rattle.objects_reader.specs.Loops.{missing_of, step_at, first_object}
 use Rattle.base.specs.Choice.{if_else}
 use Rattle.base.proofs.Cases.{by_cases, if_else_ind}
 use Rattle.base.proofs.Parts.{rest}
-use Rattle.objects_reader.specs.Head.{head_of}
+use Rattle.objects_reader.specs.Head.{head_of, Head}
 use Rattle.objects_reader.specs.Form.{Form, done, plain, maybe, nested, col, cut_of, form_in, form_of, is_clean, spoilt, noted, on_head, of_size, read_form}
-use Rattle.objects_reader.specs.declared.head.Head.{Head}
-use Rattle.objects_reader.specs.declared.head.Head.TheVariants.{Body, NoTag, NoLength}
+use Rattle.objects_reader.specs.declared.head.HeadFault.TheVariants.{NoTag, NoLength}
+use Rattle.std.specs.Prelude.{Ok, Err}
 use Rattle.objects_reader.specs.declared.reader.Fault.{Fault}
 use Rattle.objects_reader.specs.declared.reader.Fault.TheVariants.{Tag, Length}
 use Rattle.objects_reader.specs.declared.reader.Step.{Step}
@@ -35,11 +35,11 @@ StepIn m d n (Plain start len) = (1 ≤ m) × (start + len ≤ n)
 StepIn m d n (Nested start len cut) = (1 ≤ cut) × (cut ≤ m) × (start + len ≤ n) × (1 ≤ d)
 
 step_in : (rows : List (List ℕ)) (d n : ℕ) (h : Head) → 1 ≤ length rows → 1 ≤ d → HeadIn 5 n h → StepIn (length rows) d n (step_at h rows)
-step_in rows d n NoTag p q i =
+step_in rows d n (Err NoTag) p q i =
     let P = StepIn (length rows) d n in
     if_else_ind P (eqb (col rows 1) 0) (λ e. if_else_ind P (eqb (col rows 2) 0) (λ f. p) (λ f. tt)) (λ e. tt)
-step_in rows d n NoLength p q i = tt
-step_in rows d n (Body start len) p q i =
+step_in rows d n (Err NoLength) p q i = tt
+step_in rows d n (Ok (start, len)) p q i =
     let P = StepIn (length rows) d n in
     if_else_ind P (eqb (col rows 1) 0)
     (λ e. if_else_ind P (ltb len (col rows 3)) (λ f. tt) (λ f. if_else_ind P (ltb (col rows 4) len) (λ g. tt) (λ g. omega arith)))
@@ -112,18 +112,18 @@ value_case : (rows : List (List ℕ)) (d base : ℕ) (s : List ℕ) (r : Reading
     on_head h
     (λ start len. of_size (col rows 3) (col rows 4) len (read_form (form_of (drop 1 rows)) d (base + (start + len)) (drop (start + len) s) (noted r (base + start) len)) (spoilt r Length base))
     none (spoilt r Length base) ≡ on_step (step_at h rows) rows d base s r
-value_case rows d base s r NoTag none f m = m
-value_case rows d base s r NoLength none f m = refl
-value_case rows d base s r (Body start len) none f m = simp f
+value_case rows d base s r (Err NoTag) none f m = m
+value_case rows d base s r (Err NoLength) none f m = refl
+value_case rows d base s r (Ok (start, len)) none f m = simp f
     (by_cases (ltb len (col rows 3)) (λ a. simp a) (λ a. simp a (by_cases (ltb (col rows 4) len) (λ b. simp b) (λ b. simp b))))
 
 nested_case : (rows : List (List ℕ)) (d base : ℕ) (s : List ℕ) (r : Reading) (h : Head) → eqb (col rows 1) 0 ≡ false →
     on_head h
     (λ start len. and_then (read_form (form_of (take (cut_of rows - 1) (drop 1 rows))) (d - 1) (base + start) (take len (drop start s)) r) (form_of (drop (cut_of rows) rows)) d (base + (start + len)) (drop (start + len) s))
     (spoilt r Tag base) (spoilt r Length base) ≡ on_step (step_at h rows) rows d base s r
-nested_case rows d base s r NoTag f = simp f
-nested_case rows d base s r NoLength f = refl
-nested_case rows d base s r (Body start len) f = simp f
+nested_case rows d base s r (Err NoTag) f = simp f
+nested_case rows d base s r (Err NoLength) f = refl
+nested_case rows d base s r (Ok (start, len)) f = simp f
 
 read_step : (rows : List (List ℕ)) (d base : ℕ) (s : List ℕ) (r : Reading) → read_form (form_of rows) d base s r ≡ on_step (first_object rows d s) rows d base s r
 unfolding read_form first_object

@@ -5,13 +5,13 @@ use mathlib.Core.Path.{◌≡◌, sym, ap, ◌∙◌}
 use mathlib.Core.List.{List}
 use mathlib.Core.Bool.{true}
 use native.Mathlib.Omega.{arith}
-use lib.ListN.{length, get_or}
+use lib.ListN.{length}
 use Rattle.base.specs.Bytes.{AllBytes}
 use Rattle.base.proofs.Cases.{by_cases}
 use Rattle.objects_writer.specs.Number.{big}
 use Rattle.objects_reader.specs.Form.{Form, is_clean, read_by}
 use Rattle.objects_reader.specs.Encoding.{Values, encode, Sized, leaves, leaf_count, deep, Proper}
-use Rattle.objects_reader.specs.Places.{number_in, number_at, read_as, Placed, Noted, Parsed}
+use Rattle.objects_reader.specs.Places.{span_at, number_in, number_at, read_as, Placed, Noted, Parsed}
 use Rattle.objects_reader.specs.declared.reader.Reading.{Reading}
 use Rattle.objects_reader.proofs.NumberRead.{number_in_whole}
 use Rattle.objects_reader.proofs.Unique.{encode_unique}
@@ -49,5 +49,5 @@ module _ (f : Form) (p : Readable f) (v : Values f) (s : List ℕ) (e : encode f
   read_as_unique w k = encode_unique f p.proper v w short (e ∙ sym k)
 
 -- a number that stands at a place
-pub number_at-noted : (s : List ℕ) (r : Reading) (k : ℕ) (v : List ℕ) → Placed s (get_or r.starts k 0) (get_or r.lens k 0) v → length v ≤ 8 → number_at s r k ≡ big v
+pub number_at-noted : (s : List ℕ) (r : Reading) (k : ℕ) (v : List ℕ) → Placed s (span_at r k).at (span_at r k).len v → length v ≤ 8 → number_at s r k ≡ big v
 number_at-noted s r k v p h = ap number_in p.is ∙ number_in_whole v h

@@ -11,8 +11,9 @@ use Rattle.objects_writer.specs.Writing.{length_bytes, tag_bytes, tlv}
 use Rattle.objects_reader.specs.Head.{head_of}
 use Rattle.objects_reader.specs.Form.{Form, done, plain, maybe, nested}
 use Rattle.objects_reader.specs.Encoding.{Perhaps, absent, present, perhaps, Values, encode, apart, Follows, Proper}
-use Rattle.objects_reader.specs.declared.head.Head.TheVariants.{Body, NoTag}
-use Rattle.objects_reader.proofs.Heads.{head_size, head_of_complete, head_of_apart, head_of_empty}
+use Rattle.objects_reader.specs.declared.head.HeadFault.TheVariants.{NoTag}
+use Rattle.std.specs.Prelude.{Ok, Err}
+use Rattle.objects_reader.proofs.Heads.{same_place, head_size, head_of_complete, head_of_apart, head_of_empty}
 
 -- ---- an object at the start of a part
 
@@ -24,7 +25,7 @@ module _ (t : ℕ) (a e : List ℕ) where
   pub object_size : length (tlv t a ++ e) ≡ head_size t (length a) + length a + length e
   object_size = simp (length-append, length-tlv)
 
-  pub object_head : t < 65536 → length a < 65536 → head_of t (tlv t a ++ e) ≡ Body (head_size t (length a)) (length a)
+  pub object_head : t < 65536 → length a < 65536 → head_of t (tlv t a ++ e) ≡ Ok (head_size t (length a), length a)
   unfolding tlv
   object_head p q = simp append_assoc (head_of_complete t (length a) (a ++ e) p q (simp length-append (omega arith)))
 
@@ -37,16 +38,16 @@ module _ (t : ℕ) (a e : List ℕ) where
   object_rest = drop_at ((tag_bytes t ++ length_bytes (length a)) ++ a) e (head_size t (length a) + length a) (simp length-append)
 
 -- what cannot be taken for an object of tag t
-follows_tlv : (t t' : ℕ) (a e : List ℕ) → apart t t' ≡ true → head_of t (tlv t' a ++ e) ≡ NoTag
+follows_tlv : (t t' : ℕ) (a e : List ℕ) → apart t t' ≡ true → head_of t (tlv t' a ++ e) ≡ Err NoTag
 unfolding tlv
 follows_tlv t t' a e p = simp append_assoc (head_of_apart t t' (length a) (a ++ e) p)
 
-follows_maybe : (t t' : ℕ) (o : Perhaps) (e : List ℕ) → apart t t' ≡ true → head_of t e ≡ NoTag → head_of t (perhaps t' o ++ e) ≡ NoTag
+follows_maybe : (t t' : ℕ) (o : Perhaps) (e : List ℕ) → apart t t' ≡ true → head_of t e ≡ Err NoTag → head_of t (perhaps t' o ++ e) ≡ Err NoTag
 unfolding perhaps
 follows_maybe t t' absent e p q = q
 follows_maybe t t' (present a) e p q = follows_tlv t t' a e p
 
-pub follows_head : (t : ℕ) (f : Form) (v : Values f) → Follows t f → head_of t (encode f v) ≡ NoTag
+pub follows_head : (t : ℕ) (f : Form) (v : Values f) → Follows t f → head_of t (encode f v) ≡ Err NoTag
 unfolding encode Follows
 follows_head t done v a = head_of_empty t
 follows_head t (plain t' lo hi f) v a = follows_tlv t t' v.0 (encode f v.1) a
@@ -62,14 +63,13 @@ same_object t a b e g p q h =
     let m = object_size t b g in
     let x = object_head t a e p (omega arith) in
     let y = object_head t b g p (omega arith) in
-    let z : Body (head_size t (length a)) (length a) ≡ Body (head_size t (length b)) (length b) = sym x ∙ ap (head_of t) h ∙ y in
-    let n : length a ≡ length b = cc in
+    let n : length a ≡ length b = (same_place (sym x ∙ ap (head_of t) h ∙ y)).1 in
     let u = ap (head_size t) n in (
       sym (object_value t a e) ∙ cc (object_value t b g),
       sym (object_rest t a e) ∙ cc (object_rest t b g),
     )
 
-no_object : {A : Type 0} (t : ℕ) (a e l : List ℕ) → t < 65536 → length (tlv t a ++ e) < 65536 → head_of t l ≡ NoTag → l ≡ tlv t a ++ e → A
+no_object : {A : Type 0} (t : ℕ) (a e l : List ℕ) → t < 65536 → length (tlv t a ++ e) < 65536 → head_of t l ≡ Err NoTag → l ≡ tlv t a ++ e → A
 no_object t a e l p q h k =
     let l = object_size t a e in
     let x = object_head t a e p (omega arith) in

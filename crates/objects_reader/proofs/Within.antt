@@ -1,5 +1,5 @@
 -- Every place that a reading notes lies within the data, whatever the data and the form. Read before: specs/Places.antt. Exports
--- `zeros`, `all_within` and `read-within`.
+-- `nowhere_yet`, `all_within` and `read-within`.
 use Prim.Native.Nat.{ℕ, zero, suc, ◌+◌, ◌-◌, ◌≤◌}
 use mathlib.Core.Path.{◌≡◌, refl}
 use mathlib.Core.List.{List}
@@ -9,48 +9,47 @@ use lib.Seq.{get_or-set_same, get_or-set_other}
 use lib.Dec.{ltb, eqb}
 use borrow.Author.Tests.{ltb-true, eqb-true, eqb-false}
 use Rattle.base.proofs.Cases.{by_cases, if_else_ind}
-use Rattle.objects_reader.specs.Head.{head_of}
-use Rattle.objects_reader.specs.Form.{Form, done, plain, maybe, nested, is_clean, fresh, spoilt, noted, on_head, on_value, read_form, read_all, read_by}
+use Rattle.objects_reader.specs.Head.{head_of, Head}
+use Rattle.objects_reader.specs.Form.{Form, done, plain, maybe, nested, is_clean, nowhere, fresh, spoilt, noted, on_head, on_value, read_form, read_all, read_by}
 use Rattle.objects_reader.specs.Places.{Within}
-use Rattle.objects_reader.specs.declared.head.Head.{Head}
-use Rattle.objects_reader.specs.declared.head.Head.TheVariants.{Body, NoTag, NoLength}
+use Rattle.objects_reader.specs.declared.head.HeadFault.TheVariants.{NoTag, NoLength}
+use Rattle.std.specs.Prelude.{Ok, Err}
 use Rattle.objects_reader.specs.declared.reader.Fault.{Fault}
 use Rattle.objects_reader.specs.declared.reader.Fault.TheVariants.{Length, Depth}
 use Rattle.objects_reader.specs.declared.reader.Reading.{Reading}
+use Rattle.objects_reader.specs.declared.reader.Span.{Span}
 use Rattle.objects_reader.proofs.Lengths.{HeadIn, head_of_in}
 
-pub zeros : (n k : ℕ) → ◌≡◌ {A = ℕ} (get_or (replicate n 0) k 0) 0
-zeros zero k = refl
-zeros (suc n) zero = refl
-zeros (suc n) (suc k) = zeros n k
+pub nowhere_yet : (n k : ℕ) → get_or (replicate n nowhere) k nowhere ≡ nowhere
+nowhere_yet zero k = refl
+nowhere_yet (suc n) zero = refl
+nowhere_yet (suc n) (suc k) = nowhere_yet n k
 
 fresh-within : (n : ℕ) → Within n fresh
-fresh-within n = record { starts = refl; lens = refl; each = λ k. rw (zeros 13 k) (omega arith) }
+fresh-within n = record { places = refl; each = λ k. rw (nowhere_yet 13 k) (omega arith) }
 
 spoilt-within : (n : ℕ) (r : Reading) (f : Fault) (at : ℕ) → Within n r → Within n (spoilt r f at)
-spoilt-within n r f at w = record { starts = w.starts; lens = w.lens; each = w.each }
+spoilt-within n r f at w = record { places = w.places; each = w.each }
 
 noted-within : (n : ℕ) (r : Reading) (start len : ℕ) → start + len ≤ n → Within n r → Within n (noted r start len)
 noted-within n r start len h w =
-    let a = w.starts in
-    let b = w.lens in
+    let a = w.places in
+    let p : Span = record { at = start; len = len } in
     if_else_ind (Within n) (ltb r.n 13)
     (λ e. let l = ltb-true r.n 13 e in record {
-      starts = simp length-set a;
-      lens = simp length-set b;
+      places = simp length-set a;
       each = λ k. by_cases (eqb k r.n)
-          (λ f. rw (eqb-true k r.n f, get_or-set_same r.starts r.n start 0 (omega arith), get_or-set_same r.lens r.n len 0 (omega arith)) h)
-          (λ f. let d = eqb-false k r.n f in
-          rw (get_or-set_other r.starts r.n k start 0 d, get_or-set_other r.lens r.n k len 0 d) (w.each k));
+          (λ f. rw (eqb-true k r.n f, get_or-set_same r.places r.n p nowhere (omega arith)) h)
+          (λ f. rw (get_or-set_other r.places r.n k p nowhere (eqb-false k r.n f)) (w.each k));
     })
     (λ e. w)
 
 -- by the head of the next object, which lies within the part
 on_head-within : (n m : ℕ) (h : Head) (go : ℕ → ℕ → Reading) (none bad : Reading) → HeadIn 5 m h
     → ((start len : ℕ) → start + len ≤ m → Within n (go start len)) → Within n none → Within n bad → Within n (on_head h go none bad)
-on_head-within n m (Body start len) go none bad i g p q = g start len i.1
-on_head-within n m NoTag go none bad i g p q = p
-on_head-within n m NoLength go none bad i g p q = q
+on_head-within n m (Ok (start, len)) go none bad i g p q = g start len i.1
+on_head-within n m (Err NoTag) go none bad i g p q = p
+on_head-within n m (Err NoLength) go none bad i g p q = q
 
 -- a plain value, and what `go` reads behind it
 value-within : (n t lo hi d base : ℕ) (s : List ℕ) (r none : Reading) (go : ℕ → List ℕ → Reading → Reading) → base + length s ≤ n → Within n r

@@ -5,14 +5,15 @@
 -- and `Sayable` for an extension. The laws
 -- `search_sound`, `search_complete` and their likes prove that it accepts exactly that. This file says what a reading answers for every
 -- input, where it finds a fault too.
-use Rattle.std.specs.Prelude.{ℕ, zero, suc, ◌+◌, ◌-◌, min, List, [], Bool, length, get_or, take, drop, set, replicate, ltb, eqb}
+use Rattle.std.specs.Prelude.{ℕ, zero, suc, ◌+◌, ◌-◌, min, List, [], Bool, length, get_or, take, drop, set, replicate, ltb, eqb, Option, None, Some, Ok, Err}
+use Rattle.std.specs.Option.{is_none}
 use Rattle.base.specs.Choice.{if_else}
-use Rattle.objects_reader.specs.declared.head.Head.{Head}
-use Rattle.objects_reader.specs.declared.head.Head.TheVariants.{Body, NoTag, NoLength}
+use Rattle.objects_reader.specs.Head.{Head, head_of}
+use Rattle.objects_reader.specs.declared.head.HeadFault.TheVariants.{NoTag, NoLength}
 use Rattle.objects_reader.specs.declared.reader.Fault.{Fault}
-use Rattle.objects_reader.specs.declared.reader.Fault.TheVariants.{Clean, Tag, Length, Depth}
+use Rattle.objects_reader.specs.declared.reader.Fault.TheVariants.{Tag, Length, Depth}
 use Rattle.objects_reader.specs.declared.reader.Reading.{Reading}
-use Rattle.objects_reader.specs.Head.{head_of}
+use Rattle.objects_reader.specs.declared.reader.Span.{Span}
 
 -- Objects that stand one behind the other, in this order and with nothing else between or behind them: none; a plain one of this tag, with
 -- a value of lo to hi bytes, and what follows it; such a one that may be absent (`maybe`: a stamp has some);
@@ -49,37 +50,41 @@ form_of rows = form_in (length rows) rows
 -- ---- a reading
 
 -- the number of a fault: another tag or none, a length that does not fit, too deep; 3 is a wrong content, which a stamp can have [D9] [C2]
-abbrev pub fault_number : Fault → ℕ
-fault_number Clean = 0
-fault_number Tag = 1
-fault_number Length = 2
-fault_number Depth = 4
+abbrev pub fault_number : Option Fault → ℕ
+fault_number None = 0
+fault_number (Some Tag) = 1
+fault_number (Some Length) = 2
+fault_number (Some Depth) = 4
 
 -- no fault [D9]
-abbrev pub is_clean : Fault → Bool
-is_clean f = eqb (fault_number f) 0
+abbrev pub is_clean : Option Fault → Bool
+is_clean f = is_none f
+
+-- the place of a value that is absent or not yet read [D9]
+abbrev pub nowhere : Span
+nowhere = record { at = 0; len = 0 }
 
 -- before anything is read [D9]
 abbrev pub fresh : Reading
-fresh = record { fault = Clean; at = 0; n = 0; starts = replicate 13 0; lens = replicate 13 0 }
+fresh = record { fault = None; at = 0; n = 0; places = replicate 13 nowhere }
 
 -- the reading with a fault at a place [D9]
 abbrev pub spoilt : Reading → Fault → ℕ → Reading
-spoilt r f at = record { fault = f; at = at; n = r.n; starts = r.starts; lens = r.lens }
+spoilt r f at = record { fault = Some f; at = at; n = r.n; places = r.places }
 
 -- `noted r start len` is r with the place (start, len) behind its others. Thirteen are kept, as many as a stamp has fields; a further one is
 -- dropped. [D9]
 abbrev pub noted : Reading → ℕ → ℕ → Reading
 noted r start len =
     if_else (ltb r.n 13)
-    (record { fault = r.fault; at = r.at; n = r.n + 1; starts = set r.starts r.n start; lens = set r.lens r.n len })
+    (record { fault = r.fault; at = r.at; n = r.n + 1; places = set r.places r.n (record { at = start; len = len }) })
     r
 
 -- by the head of the next object: it stands there, its tag does not, or its length is none [D1] [D2]
 abbrev pub on_head : Head → (ℕ → ℕ → Reading) → Reading → Reading → Reading
-on_head (Body start len) go none bad = go start len
-on_head NoTag go none bad = none
-on_head NoLength go none bad = bad
+on_head (Ok (start, len)) go none bad = go start len
+on_head (Err NoTag) go none bad = none
+on_head (Err NoLength) go none bad = bad
 
 -- by the length of a plain value: lo to hi bytes, or not [D5]
 abbrev pub of_size : {A : Type 0} → ℕ → ℕ → ℕ → A → A → A

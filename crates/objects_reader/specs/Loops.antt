@@ -1,13 +1,12 @@
 -- Not to be believed: only contracts of private functions and proofs cite this.
 -- One step of the reader, as the code goes along the rows of a form.
-use Rattle.std.specs.Prelude.{ℕ, List, length, ltb, eqb}
+use Rattle.std.specs.Prelude.{ℕ, List, length, ltb, eqb, Ok, Err}
 use Rattle.base.specs.Choice.{if_else}
-use Rattle.objects_reader.specs.declared.head.Head.{Head}
-use Rattle.objects_reader.specs.declared.head.Head.TheVariants.{Body, NoTag, NoLength}
+use Rattle.objects_reader.specs.Head.{Head, head_of}
+use Rattle.objects_reader.specs.declared.head.HeadFault.TheVariants.{NoTag, NoLength}
 use Rattle.objects_reader.specs.declared.reader.Fault.TheVariants.{Tag, Length, Depth}
 use Rattle.objects_reader.specs.declared.reader.Step.{Step}
 use Rattle.objects_reader.specs.declared.reader.Step.TheVariants.{Done, Absent, Bad, Plain, Nested}
-use Rattle.objects_reader.specs.Head.{head_of}
 use Rattle.objects_reader.specs.Form.{col, cut_of, of_size}
 
 -- a value of len bytes from start on, by the first row
@@ -21,9 +20,9 @@ missing_of rows = if_else (eqb (col rows 1) 0) (if_else (eqb (col rows 2) 0) Abs
 
 -- what the head found makes of the first row
 abbrev pub step_at : Head → List (List ℕ) → Step
-step_at (Body start len) rows = value_step rows start len
-step_at NoTag rows = missing_of rows
-step_at NoLength rows = Bad Length
+step_at (Ok (start, len)) rows = value_step rows start len
+step_at (Err NoTag) rows = missing_of rows
+step_at (Err NoLength) rows = Bad Length
 
 -- what stands first in s: where no row is left nothing may stand there, nothing stands deeper than the depth, else the first row says it
 unfoldable pub first_object : List (List ℕ) → ℕ → List ℕ → Step

@@ -2,53 +2,41 @@
 ghost use Rattle.std.specs.Prelude.{◌≡◌, ◌≤◌, length, drop};
 ghost use Rattle.objects_reader.specs.Head.{body_in, length_of, head_of, past_by};
 
-// What stands at the start of a part: an object of the wanted tag whose value is the len bytes from start on, or the fault.
+// What is missing at the start of a part: the wanted tag, or a length that fits.
 #[derive(Clone, Copy)]
-pub enum Head {
-    Body(usize, usize),
+pub enum HeadFault {
     NoTag,
     NoLength,
 }
+
+// What stands at the start of a part: an object of the wanted tag whose value is the len bytes from start on, as (start, len); or the fault.
+pub type Head = Result<(usize, usize), HeadFault>;
 
 // A value of n bytes, at least `least`, behind k bytes of s.
 fn body_in(s: &[u8], k: usize, least: usize, n: usize) -> Head
     requires { k ≤ length s.now }
     ensures { result ≡ body_in s.now k least n }
 {
-    if n < least {
-        return Head::NoLength;
-    }
-    if n <= s.len() - k {
-        Head::Body(k, n)
+    if least <= n && n <= s.len() - k {
+        Ok((k, n))
     } else {
-        Head::NoLength
+        Err(HeadFault::NoLength)
     }
 }
 
 // The length field at the start of s, with the value's bytes behind it.
+#[tactic(auto, unfolding(crate::specs::Head::length_of))]
 pub fn length_at(s: &[u8]) -> Head
     ensures { result ≡ length_of s.now }
 {
-    if s.len() < 1 {
-        return Head::NoLength;
-    }
-    let b = s[0] as usize;
-    if b < 0x80 {
-        return body_in(s, 1, 0, b);
-    }
-    if b == 0x81 {
-        if s.len() < 2 {
-            return Head::NoLength;
+    match s {
+        [b, ..] if *b < 0x80 => body_in(s, 1, 0, usize::from(*b)),
+        [0x81, n, ..] => body_in(s, 2, 0x80, usize::from(*n)),
+        [0x82, high, low, ..] => {
+            body_in(s, 3, 0x100, usize::from(*high) * 256 + usize::from(*low))
         }
-        return body_in(s, 2, 0x80, s[1] as usize);
+        _ => Err(HeadFault::NoLength),
     }
-    if b == 0x82 {
-        if s.len() < 3 {
-            return Head::NoLength;
-        }
-        return body_in(s, 3, 0x100, (s[1] as usize) * 256 + (s[2] as usize));
-    }
-    Head::NoLength
 }
 
 // The object whose length field stands behind k bytes of s.
@@ -56,32 +44,18 @@ fn past(s: &[u8], k: usize) -> Head
     requires { (k ≤ 2) × (k ≤ length s.now) }
     ensures { result ≡ past_by k (length_of (drop k s.now)) }
 {
-    let h = length_at(&s[k..]);
-    match h {
-        Head::Body(start, len) => Head::Body(k + start, len),
-        Head::NoTag => Head::NoTag,
-        Head::NoLength => Head::NoLength,
-    }
+    let (start, len) = length_at(&s[k..])?;
+    Ok((k + start, len))
 }
 
 // The object with this tag at the start of s.
+#[tactic(auto, unfolding(crate::specs::Head::head_of))]
 pub fn header(s: &[u8], tag: u16) -> Head
     ensures { result ≡ head_of tag s.now }
 {
-    if tag < 0x100 {
-        if s.len() < 1 {
-            return Head::NoTag;
-        }
-        if s[0] as usize == tag as usize {
-            return past(s, 1);
-        }
-        return Head::NoTag;
+    match s {
+        [one, ..] if tag < 0x100 && u16::from(*one) == tag => past(s, 1),
+        [high, low, ..] if 0x100 <= tag && u16::from_be_bytes([*high, *low]) == tag => past(s, 2),
+        _ => Err(HeadFault::NoTag),
     }
-    if s.len() < 2 {
-        return Head::NoTag;
-    }
-    if (s[0] as usize) * 256 + (s[1] as usize) == tag as usize {
-        return past(s, 2);
-    }
-    Head::NoTag
 }

@@ -1,23 +1,21 @@
 // One reader for all data fields: it goes by the rows of a form. A row is an object: its tag, the number of rows that stand inside
 // it, 0 where a plain value may be absent, the fewest and the most bytes of a plain value.
 ghost use Rattle.std.specs.Prelude.{◌≡◌, ◌+◌, ◌≤◌, ◌<◌, length};
-ghost use Rattle.objects_reader.specs.Form.{form_of, cut_of, is_clean, fresh, spoilt, noted, read_form, read_all, read_of};
+ghost use Rattle.objects_reader.specs.Form.{form_of, cut_of, fresh, spoilt, noted, read_form, read_all, read_of};
 ghost use Rattle.objects_reader.specs.Loops.{value_step, missing_of, first_object};
 
-use super::head::{Head, header};
-use super::number::wide;
+use super::head::{HeadFault, header};
 
 // What is wrong with an object: another tag or none stands there, its length is none that fits, or it lies too deep. [D9]
 #[derive(Clone, Copy)]
 pub enum Fault {
-    Clean,
     Tag,
     Length,
     Depth,
 }
 
 // What stands first in a part: nothing more, a fault, a plain value, or a value that is objects again, with the row at which what
-// follows goes on; or nothing where a value may be absent.
+// follows goes on; or nothing where a value may be absent. Of the five only one is a fault, so a Result would still hold an enum of four.
 #[derive(Clone, Copy)]
 pub enum Step {
     Done,
@@ -27,14 +25,20 @@ pub enum Step {
     Absent,
 }
 
-// What a reading found: the first fault with its place, and the places of the values read so far. [D9]
+// Where a value stands in the data: the len bytes from at on.
+#[derive(Clone, Copy)]
+pub struct Span {
+    pub at: usize,
+    pub len: usize,
+}
+
+// What a reading found: the first fault with its place, and the places of the values read so far, which are n. [D9]
 #[derive(Clone, Copy)]
 pub struct Reading {
-    pub fault: Fault,
+    pub fault: Option<Fault>,
     pub at: usize,
     pub n: usize,
-    pub starts: [usize; 13],
-    pub lens: [usize; 13],
+    pub places: [Span; 13],
 }
 
 // Before anything is read.
@@ -42,11 +46,10 @@ fn fresh() -> Reading
     ensures { result ≡ fresh }
 {
     Reading {
-        fault: Fault::Clean,
+        fault: None,
         at: 0,
         n: 0,
-        starts: [0; 13],
-        lens: [0; 13],
+        places: [Span { at: 0, len: 0 }; 13],
     }
 }
 
@@ -54,14 +57,10 @@ fn fresh() -> Reading
 fn spoil(r: Reading, fault: Fault, at: usize) -> Reading
     ensures { result ≡ spoilt r fault at }
 {
-    let starts = r.starts;
-    let lens = r.lens;
     Reading {
-        fault,
+        fault: Some(fault),
         at,
-        n: r.n,
-        starts,
-        lens,
+        ..r
     }
 }
 
@@ -69,27 +68,12 @@ fn spoil(r: Reading, fault: Fault, at: usize) -> Reading
 fn note(r: Reading, start: usize, len: usize) -> Reading
     ensures { result ≡ noted r start len }
 {
-    let n = r.n;
     let mut q = r;
-    if n < 13 {
-        q.starts[n] = start;
-        q.lens[n] = len;
-        q.n = n + 1;
+    if r.n < 13 {
+        q.places[r.n] = Span { at: start, len };
+        q.n = r.n + 1;
     }
     q
-}
-
-// Whether no fault is noted.
-pub fn clean(r: Reading) -> bool
-    ensures { result ≡ is_clean r.fault }
-{
-    let f = r.fault;
-    match f {
-        Fault::Clean => true,
-        Fault::Tag => false,
-        Fault::Length => false,
-        Fault::Depth => false,
-    }
 }
 
 // Where the rows of what stands inside the first object end.
@@ -97,7 +81,7 @@ fn cut_at(form: &[[u16; 5]]) -> usize
     requires { 1 ≤ length form.now }
     ensures { result ≡ cut_of form.now }
 {
-    let inner = wide(form[0][1]);
+    let inner = usize::from(form[0][1]);
     if inner <= form.len() - 1 {
         1 + inner
     } else {
@@ -111,15 +95,14 @@ fn kind(form: &[[u16; 5]], start: usize, len: usize) -> Step
     ensures { result ≡ value_step form.now start len }
 {
     if form[0][1] == 0 {
-        if len < wide(form[0][3]) {
-            return Step::Bad(Fault::Length);
+        if usize::from(form[0][3]) <= len && len <= usize::from(form[0][4]) {
+            Step::Plain(start, len)
+        } else {
+            Step::Bad(Fault::Length)
         }
-        if wide(form[0][4]) < len {
-            return Step::Bad(Fault::Length);
-        }
-        return Step::Plain(start, len);
+    } else {
+        Step::Nested(start, len, cut_at(form))
     }
-    Step::Nested(start, len, cut_at(form))
 }
 
 // What it means that the first row's tag is not there.
@@ -127,32 +110,32 @@ fn missing(form: &[[u16; 5]]) -> Step
     requires { 1 ≤ length form.now }
     ensures { result ≡ missing_of form.now }
 {
-    if form[0][1] == 0 {
-        if form[0][2] == 0 {
-            return Step::Absent;
-        }
+    if form[0][1] == 0 && form[0][2] == 0 {
+        Step::Absent
+    } else {
+        Step::Bad(Fault::Tag)
     }
-    Step::Bad(Fault::Tag)
 }
 
 // What stands first in s by the rows of its form: every test of the reading is here.
+#[tactic(auto, unfolding(crate::specs::Loops::first_object))]
 fn first(s: &[u8], form: &[[u16; 5]], depth: usize) -> Step
     ensures { result ≡ first_object form.now depth s.now }
 {
-    if form.len() < 1 {
-        if s.len() == 0 {
-            return Step::Done;
-        }
-        return Step::Bad(Fault::Tag);
+    if form.is_empty() {
+        return if s.is_empty() {
+            Step::Done
+        } else {
+            Step::Bad(Fault::Tag)
+        };
     }
     if depth == 0 {
         return Step::Bad(Fault::Depth);
     }
-    let h = header(s, form[0][0]);
-    match h {
-        Head::NoTag => missing(form),
-        Head::NoLength => Step::Bad(Fault::Length),
-        Head::Body(start, len) => kind(form, start, len),
+    match header(s, form[0][0]) {
+        Ok((start, len)) => kind(form, start, len),
+        Err(HeadFault::NoTag) => missing(form),
+        Err(HeadFault::NoLength) => Step::Bad(Fault::Length),
     }
 }
 
@@ -163,11 +146,11 @@ fn objects(s: &[u8], form: &[[u16; 5]], base: usize, depth: usize, r: Reading) -
     ensures { result ≡ read_form (form_of form.now) depth base s.now r }
 {
     let mut q = r;
+    // Each step is read from the data: no range counts these two.
     let mut at = 0;
     let mut row = 0;
     loop {
-        let h = first(&s[at..], &form[row..], depth);
-        match h {
+        match first(&s[at..], &form[row..], depth) {
             Step::Done => return q,
             Step::Bad(fault) => return spoil(q, fault, base + at),
             Step::Plain(start, len) => {
@@ -181,7 +164,7 @@ fn objects(s: &[u8], form: &[[u16; 5]], base: usize, depth: usize, r: Reading) -
                 let inner = row + 1;
                 let next = row + cut;
                 q = objects(&s[from..to], &form[inner..next], base + from, depth - 1, q);
-                if !clean(q) {
+                if q.fault.is_some() {
                     return q;
                 }
                 at = to;
@@ -203,11 +186,13 @@ pub fn read_all(s: &[u8], form: &[[u16; 5]]) -> Reading
 }
 
 // The same for the data of a command: more than 65,535 bytes are a wrong length.
+#[tactic(auto, unfolding(crate::specs::Form::read_by))]
 pub fn read(s: &[u8], form: &[[u16; 5]]) -> Reading
     ensures { result ≡ read_of form.now s.now }
 {
-    if 65535 < s.len() {
-        return spoil(fresh(), Fault::Length, 0);
+    if s.len() <= 65535 {
+        read_all(s, form)
+    } else {
+        spoil(fresh(), Fault::Length, 0)
     }
-    read_all(s, form)
 }

@@ -12,26 +12,25 @@ use lib.Dec.{ltb, eqb, lit≤}
 use borrow.Author.Tests.{ltb-true, ltb-false, eqb-true, eqb-false}
 use Rattle.base.specs.Choice.{if_else}
 use Rattle.base.proofs.Cases.{by_cases, if_else_ind, false-true}
-use Rattle.objects_reader.specs.Head.{length_of, head_of, past_by}
+use Rattle.objects_reader.specs.Head.{length_of, head_of, past_by, Head}
 use Rattle.objects_reader.specs.Form.{Form, done, plain, maybe, nested, of_size}
 use Rattle.base.specs.Bytes.{AllBytes}
 use Rattle.objects_reader.specs.Encoding.{leaf_count}
-use Rattle.objects_reader.specs.declared.head.Head.{Head}
-use Rattle.objects_reader.specs.declared.head.Head.TheVariants.{Body, NoTag, NoLength}
+use Rattle.objects_reader.specs.declared.head.HeadFault.TheVariants.{NoTag, NoLength}
+use Rattle.std.specs.Prelude.{Ok, Err}
 use Rattle.objects_reader.proofs.Heads.{head_of_sound}
 use Rattle.objects_reader.proofs.Exact.{bytes_drop, bytes_take}
 use Rattle.objects_reader.proofs.Lengths.{HeadIn, head_of_in}
 use Rattle.objects_stamp.specs.declared.Reason.{Reason}
 use Rattle.objects_stamp.specs.declared.Reason.TheVariants.{WrongTag, WrongLength, WrongContent}
-use Rattle.objects_stamp.specs.declared.Finding.{Finding}
-use Rattle.objects_stamp.specs.declared.Finding.TheVariants.{Right, Wrong}
-use Rattle.objects_stamp.specs.FirstFault.{and_then, object_fault, first_fault}
+use Rattle.objects_stamp.specs.FirstFault.{Finding, and_then, object_fault, first_fault}
+use Rattle.objects_stamp.specs.Loops.{wrong}
 use Rattle.objects_stamp.specs.Faults.{reason_number, Faults, OnlyAt, FieldFaults, NestFaults, FormFaults, NoFault, FirstOf}
 
 -- what is found tells the first of the faults, or that there is none
 unfoldable pub IsFirst : Finding → Faults → Type 0
-IsFirst Right F = NoFault F
-IsFirst (Wrong r p) F = FirstOf F r p
+IsFirst (Ok _) F = NoFault F
+IsFirst (Err (r, p)) F = FirstOf F r p
 
 reason_least : (r : Reason) → 1 ≤ reason_number r
 reason_least WrongTag = omega arith
@@ -51,19 +50,19 @@ reason_same WrongContent WrongContent e = refl
 
 -- a head has a byte or more, and lies within its part of n bytes; where a length is missing, a byte of the tag stands there
 abbrev Fine : ℕ → Head → Type 0
-Fine n (Body start len) = (1 ≤ start) × (start + len ≤ n)
-Fine n NoTag = Unit {0}
-Fine n NoLength = 1 ≤ n
+Fine n (Ok (start, len)) = (1 ≤ start) × (start + len ≤ n)
+Fine n (Err NoTag) = Unit {0}
+Fine n (Err NoLength) = 1 ≤ n
 
 abbrev Some : ℕ → Head → Type 0
-Some n (Body start len) = 1 ≤ start
-Some n NoTag = Unit {0}
-Some n NoLength = 1 ≤ n
+Some n (Ok (start, len)) = 1 ≤ start
+Some n (Err NoTag) = Unit {0}
+Some n (Err NoLength) = 1 ≤ n
 
 past_some : (n j : ℕ) (h : Head) → 1 ≤ j → 1 ≤ n → Some n (past_by j h)
-past_some n j (Body start len) p q = omega arith
-past_some n j NoTag p q = tt
-past_some n j NoLength p q = q
+past_some n j (Ok (start, len)) p q = omega arith
+past_some n j (Err NoTag) p q = tt
+past_some n j (Err NoLength) p q = q
 
 head-some : (t : ℕ) (s : List ℕ) → Some (length s) (head_of t s)
 unfolding head_of
@@ -76,9 +75,9 @@ head-some t s =
     (λ f. let h = ltb-false (length s) 2 f in if_else_ind P (eqb (get_or s 0 0 * 256 + get_or s 1 0) t) (λ g. past_some (length s) 2 (length_of (drop 2 s)) (lit≤ tt) (omega arith)) (λ g. tt)))
 
 fine_of : (n : ℕ) (h : Head) → Some n h → HeadIn 5 n h → Fine n h
-fine_of n (Body start len) p i = (p, i.1)
-fine_of n NoTag p i = tt
-fine_of n NoLength p i = p
+fine_of n (Ok (start, len)) p i = (p, i.1)
+fine_of n (Err NoTag) p i = tt
+fine_of n (Err NoLength) p i = p
 
 fine : (t : ℕ) (s : List ℕ) → Fine (length s) (head_of t s)
 fine t s = fine_of (length s) (head_of t s) (head-some t s) (head_of_in t s)
@@ -107,9 +106,9 @@ length-inside at n h = record {
 
 field_inside : (n : ℕ) (h : Head) (lo hi at : ℕ) (content : ℕ → ℕ → Bool) (B : ℕ → Faults) (M : Faults) → Fine n h
     → ((j : ℕ) → j ≤ n → Inside (at + j) (at + n) (B j)) → Inside at (at + n) M → Inside at (at + n) (FieldFaults h lo hi at content B M)
-field_inside n NoTag lo hi at content B M i b m = m
-field_inside n NoLength lo hi at content B M i b m = length-inside at n i
-field_inside n (Body start len) lo hi at content B M i b m =
+field_inside n (Err NoTag) lo hi at content B M i b m = m
+field_inside n (Err NoLength) lo hi at content B M i b m = length-inside at n i
+field_inside n (Ok (start, len)) lo hi at content B M i b m =
     let u = i.0 in
     let v = i.1 in
     let w = b (start + len) v in
@@ -121,9 +120,9 @@ field_inside n (Body start len) lo hi at content B M i b m =
 
 nest_inside : (n : ℕ) (h : Head) (at : ℕ) (G : ℕ → ℕ → Faults) (B : ℕ → Faults) → Fine n h
     → ((start len : ℕ) → start + len ≤ n → Inside (at + start) (at + (start + len)) (G start len)) → ((j : ℕ) → j ≤ n → Inside (at + j) (at + n) (B j)) → Inside at (at + n) (NestFaults h at G B)
-nest_inside n NoTag at G B i g b = tag-inside at n
-nest_inside n NoLength at G B i g b = length-inside at n i
-nest_inside n (Body start len) at G B i g b =
+nest_inside n (Err NoTag) at G B i g b = tag-inside at n
+nest_inside n (Err NoLength) at G B i g b = length-inside at n i
+nest_inside n (Ok (start, len)) at G B i g b =
     let v = i.1 in
     let a = g start len v in
     let w = b (start + len) v in
@@ -160,14 +159,14 @@ module _ (ok : ℕ → ℕ → ℕ → Bool) where
 -- the same faults have the same first
 first_map : (v : Finding) {F G : Faults} → ((r : Reason) (p : ℕ) → F r p → G r p) → ((r : Reason) (p : ℕ) → G r p → F r p) → IsFirst v F → IsFirst v G
 unfolding IsFirst
-first_map Right a b x = λ r p y. x r p (b r p y)
-first_map (Wrong r p) a b x = (a r p x.0, λ r' p' y. x.1 r' p' (b r' p' y))
+first_map (Ok _) a b x = λ r p y. x r p (b r p y)
+first_map (Err (r, p)) a b x = (a r p x.0, λ r' p' y. x.1 r' p' (b r' p' y))
 
 -- of one reason at a place
 same_place : {a r : Reason} {at p : ℕ} → OnlyAt a at r p → (at < p) ⊎ ((at ≡ p) × (reason_number a ≤ reason_number r))
 same_place x = inr (sym x.1, (let e = ap reason_number x.0 in omega arith))
 
-only-first : (a : Reason) (at : ℕ) → IsFirst (Wrong a at) (OnlyAt a at)
+only-first : (a : Reason) (at : ℕ) → IsFirst (Err (a, at)) (OnlyAt a at)
 unfolding IsFirst
 only-first a at = ((refl, refl), λ r p x. same_place x)
 
@@ -178,15 +177,15 @@ of_size_lem lo hi len a b t e =
 
 field_first : (n : ℕ) (h : Head) (lo hi at : ℕ) (content : ℕ → ℕ → Bool) (behind : ℕ → Finding) (B : ℕ → Faults) (missing : Finding) (M : Faults) → Fine n h
     → ((j : ℕ) → IsFirst (behind j) (B j)) → ((j : ℕ) (r : Reason) (p : ℕ) → B j r p → at + j ≤ p) → IsFirst missing M
-    → IsFirst (object_fault h at (λ start len. of_size lo hi len (if_else (content (at + start) len) (behind (start + len)) (Wrong WrongContent at)) (Wrong WrongLength at)) missing)
+    → IsFirst (object_fault h at (λ start len. of_size lo hi len (if_else (content (at + start) len) (behind (start + len)) (Err (WrongContent, at))) (Err (WrongLength, at))) missing)
     (FieldFaults h lo hi at content B M)
 unfolding IsFirst
-field_first n NoTag lo hi at content behind B missing M i b l m = m
-field_first n NoLength lo hi at content behind B missing M i b l m = only-first WrongLength at
-field_first n (Body start len) lo hi at content behind B missing M i b l m =
+field_first n (Err NoTag) lo hi at content behind B missing M i b l m = m
+field_first n (Err NoLength) lo hi at content behind B missing M i b l m = only-first WrongLength at
+field_first n (Ok (start, len)) lo hi at content behind B missing M i b l m =
     let u = i.0 in
     by_cases (of_size lo hi len true false)
-    (λ e. rw (of_size_lem lo hi len _ (Wrong WrongLength at) true e)
+    (λ e. rw (of_size_lem {A = Finding} lo hi len _ (Err (WrongLength, at)) true e)
     (by_cases (content (at + start) len)
     (λ c. rw c (first_map (behind (start + len)) (λ r p x. inr (inr x))
     (λ r p x. ⊎_elim (λ y. false-true (sym y.0 ∙ e)) (λ y. ⊎_elim (λ z. false-true (sym z.0 ∙ c)) (λ z. z) y) x) (b (start + len))))
@@ -195,7 +194,7 @@ field_first n (Body start len) lo hi at content behind B missing M i b l m =
       λ r p x. ⊎_elim (λ y. false-true (sym y.0 ∙ e))
           (λ y. ⊎_elim (λ z. same_place z.1) (λ z. let q = l (start + len) r p z in inl (omega arith)) y) x,
     ))))
-    (λ e. rw (of_size_lem lo hi len _ (Wrong WrongLength at) false e) (
+    (λ e. rw (of_size_lem {A = Finding} lo hi len _ (Err (WrongLength, at)) false e) (
       inl (e, (refl, refl)),
       λ r p x. ⊎_elim (λ y. same_place y.1)
           (λ y. ⊎_elim (λ z. inr (sym z.1.1, (let q = ap reason_number z.1.0 in omega arith))) (λ z. let q = l (start + len) r p z in inl (omega arith)) y) x,
@@ -205,9 +204,9 @@ field_first n (Body start len) lo hi at content behind B missing M i b l m =
 then_first : (v w : Finding) (a e : ℕ) (G B : Faults) → IsFirst v G → IsFirst w B → Inside a e G → ((r : Reason) (p : ℕ) → B r p → e ≤ p)
     → IsFirst (and_then v w) (λ r p. G r p ⊎ B r p)
 unfolding IsFirst
-then_first Right w a e G B x y h l =
+then_first (Ok _) w a e G B x y h l =
     first_map w {F = B} {G = λ r p. G r p ⊎ B r p} (λ r p z. inr z) (λ r p z. ⊎_elim (λ g. absurd (x r p g)) (λ g. g) z) y
-then_first (Wrong r p) w a e G B x y h l = (
+then_first (Err (r, p)) w a e G B x y h l = (
   inl x.0,
   λ r' p' z. ⊎_elim (λ g. x.1 r' p' g)
       (λ g. let b = l r' p' g in
@@ -227,13 +226,13 @@ then_first (Wrong r p) w a e G B x y h l = (
 nest_first : (n : ℕ) (h : Head) (at : ℕ) (within : ℕ → ℕ → Finding) (G : ℕ → ℕ → Faults) (behind : ℕ → Finding) (B : ℕ → Faults) → Fine n h
     → ((start len : ℕ) → IsFirst (within start len) (G start len)) → ((start len : ℕ) → start + len ≤ n → Inside (at + start) (at + (start + len)) (G start len))
     → ((j : ℕ) → IsFirst (behind j) (B j)) → ((j : ℕ) (r : Reason) (p : ℕ) → B j r p → at + j ≤ p)
-    → IsFirst (object_fault h at (λ start len. and_then (within start len) (behind (start + len))) (Wrong WrongTag at)) (NestFaults h at G B)
-nest_first n NoTag at within G behind B i a u b l = only-first WrongTag at
-nest_first n NoLength at within G behind B i a u b l = only-first WrongLength at
-nest_first n (Body start len) at within G behind B i a u b l =
+    → IsFirst (object_fault h at (λ start len. and_then (within start len) (behind (start + len))) (Err (WrongTag, at))) (NestFaults h at G B)
+nest_first n (Err NoTag) at within G behind B i a u b l = only-first WrongTag at
+nest_first n (Err NoLength) at within G behind B i a u b l = only-first WrongLength at
+nest_first n (Ok (start, len)) at within G behind B i a u b l =
     then_first (within start len) (behind (start + len)) (at + start) (at + (start + len)) (G start len) (B (start + len)) (a start len) (b (start + len)) (u start len i.1) (l (start + len))
 
-done_first : (at : ℕ) (s : List ℕ) → IsFirst (if_else (eqb (length s) 0) Right (Wrong WrongTag at)) (λ r p. (1 ≤ length s) × OnlyAt WrongTag at r p)
+done_first : (at : ℕ) (s : List ℕ) → IsFirst (if_else (eqb (length s) 0) (Ok tt) (Err (WrongTag, at))) (λ r p. (1 ≤ length s) × OnlyAt WrongTag at r p)
 unfolding IsFirst
 done_first at s =
     by_cases (eqb (length s) 0)
@@ -246,7 +245,7 @@ module _ (ok : ℕ → ℕ → ℕ → Bool) where
   unfolding first_fault FormFaults
   fault_first done k at s = done_first at s
   fault_first (plain t lo hi f) k at s =
-      field_first (length s) (head_of t s) lo hi at (ok k) (λ n. first_fault ok f (suc k) (at + n) (drop n s)) (λ n. FormFaults ok f (suc k) (at + n) (drop n s)) (Wrong WrongTag at) (OnlyAt WrongTag at) (fine t s)
+      field_first (length s) (head_of t s) lo hi at (ok k) (λ n. first_fault ok f (suc k) (at + n) (drop n s)) (λ n. FormFaults ok f (suc k) (at + n) (drop n s)) (Err (WrongTag, at)) (OnlyAt WrongTag at) (fine t s)
       (λ j. fault_first f (suc k) (at + j) (drop j s)) (λ j. (faulty-inside ok f (suc k) (at + j) (drop j s)).low) (only-first WrongTag at)
   fault_first (maybe t lo hi f) k at s =
       field_first (length s) (head_of t s) lo hi at (ok k) (λ n. first_fault ok f (suc k) (at + n) (drop n s)) (λ n. FormFaults ok f (suc k) (at + n) (drop n s)) (first_fault ok f (suc k) at s) (FormFaults ok f (suc k) at s) (fine t s)
@@ -263,14 +262,14 @@ module _ (ok : ℕ → ℕ → ℕ → Bool) where
 
 -- a head has at most five bytes, and a value fewer than 65,536
 abbrev Short : Head → Type 0
-Short (Body start len) = start + len ≤ 65540
-Short NoTag = Unit {0}
-Short NoLength = Unit {0}
+Short (Ok (start, len)) = start + len ≤ 65540
+Short (Err NoTag) = Unit {0}
+Short (Err NoLength) = Unit {0}
 
 short_of : (t : ℕ) (s : List ℕ) → AllBytes s → (h : Head) → head_of t s ≡ h → HeadIn 5 (length s) h → Short h
-short_of t s b (Body start len) e i = let w = (head_of_sound t s start len b e).short in let u = i.0 in omega arith
-short_of t s b NoTag e i = tt
-short_of t s b NoLength e i = tt
+short_of t s b (Ok (start, len)) e i = let w = (head_of_sound t s start len b e).short in let u = i.0 in omega arith
+short_of t s b (Err NoTag) e i = tt
+short_of t s b (Err NoLength) e i = tt
 
 short : (t : ℕ) (s : List ℕ) → AllBytes s → Short (head_of t s)
 short t s b = short_of t s b (head_of t s) refl (head_of_in t s)
@@ -287,17 +286,17 @@ Near F e = (r : Reason) (p : ℕ) → F r p → p ≤ e
 
 field_near : (h : Head) (lo hi at n : ℕ) (content : ℕ → ℕ → Bool) (B : ℕ → Faults) (M : Faults) → Short h
     → ((j : ℕ) → j ≤ 65540 → Near (B j) (at + j + n)) → Near M (at + (65540 + n)) → Near (FieldFaults h lo hi at content B M) (at + (65540 + n))
-field_near NoTag lo hi at n content B M i b m = m
-field_near NoLength lo hi at n content B M i b m = λ r p x. let y = x.1 in omega arith
-field_near (Body start len) lo hi at n content B M i b m =
+field_near (Err NoTag) lo hi at n content B M i b m = m
+field_near (Err NoLength) lo hi at n content B M i b m = λ r p x. let y = x.1 in omega arith
+field_near (Ok (start, len)) lo hi at n content B M i b m =
     λ r p x. ⊎_elim (λ y. let z = y.1.1 in omega arith) (λ y. ⊎_elim (λ z. let q = z.1.1 in omega arith) (λ z. let q = b (start + len) i r p z in omega arith) y) x
 
 nest_near : (h : Head) (at n m : ℕ) (G : ℕ → ℕ → Faults) (B : ℕ → Faults) → Short h
     → ((start len : ℕ) → start + len ≤ 65540 → Near (G start len) (at + start + n)) → ((j : ℕ) → j ≤ 65540 → Near (B j) (at + j + m))
     → Near (NestFaults h at G B) (at + (65540 + (n + m)))
-nest_near NoTag at n m G B i g b = λ r p x. let y = x.1 in omega arith
-nest_near NoLength at n m G B i g b = λ r p x. let y = x.1 in omega arith
-nest_near (Body start len) at n m G B i g b =
+nest_near (Err NoTag) at n m G B i g b = λ r p x. let y = x.1 in omega arith
+nest_near (Err NoLength) at n m G B i g b = λ r p x. let y = x.1 in omega arith
+nest_near (Ok (start, len)) at n m G B i g b =
     λ r p x. ⊎_elim (λ y. let q = g start len i r p y in omega arith) (λ y. let q = b (start + len) i r p y in omega arith) x
 
 module _ (ok : ℕ → ℕ → ℕ → Bool) where
@@ -314,18 +313,18 @@ module _ (ok : ℕ → ℕ → ℕ → Bool) where
       (λ start len h. near g k (at + start) (take len (drop start s)) (bytes_take len (drop start s) (bytes_drop start s b)))
       (λ j h. near f (k + leaf_count g) (at + j) (drop j s) (bytes_drop j s b))
 
-  pub fault_near : (f : Form) (k at : ℕ) (s : List ℕ) (r : Reason) (p : ℕ) → AllBytes s → first_fault ok f k at s ≡ Wrong r p → p ≤ at + reach f
+  pub fault_near : (f : Form) (k at : ℕ) (s : List ℕ) (r : Reason) (p : ℕ) → AllBytes s → first_fault ok f k at s ≡ Err (r, p) → p ≤ at + reach f
   unfolding IsFirst
   fault_near f k at s r p b e = near f k at s b r p (subst (λ (v : Finding). IsFirst v (FormFaults ok f k at s)) e (fault_first ok f k at s)).0
 
 -- there is exactly one
 pub first_unique : (v w : Finding) (F : Faults) → IsFirst v F → IsFirst w F → v ≡ w
 unfolding IsFirst
-first_unique Right Right F x y = refl
-first_unique Right (Wrong r p) F x y = absurd (x r p y.0)
-first_unique (Wrong r p) Right F x y = absurd (y r p x.0)
-first_unique (Wrong r p) (Wrong r' p') F x y =
+first_unique (Ok _) (Ok _) F x y = refl
+first_unique (Ok _) (Err (r, p)) F x y = absurd (x r p y.0)
+first_unique (Err (r, p)) (Ok _) F x y = absurd (y r p x.0)
+first_unique (Err (r, p)) (Err (r', p')) F x y =
     ⊎_elim (λ a. ⊎_elim (λ b. absurd (omega arith)) (λ b. let e = b.0 in absurd (omega arith)) (y.1 r p x.0))
     (λ a. ⊎_elim (λ b. let e = a.0 in absurd (omega arith))
-    (λ b. let m = a.1 in let n = b.1 in ap₂ Wrong (reason_same r r' (omega arith)) a.0) (y.1 r p x.0))
+    (λ b. let m = a.1 in let n = b.1 in ap₂ wrong (reason_same r r' (omega arith)) a.0) (y.1 r p x.0))
     (x.1 r' p' y.0)

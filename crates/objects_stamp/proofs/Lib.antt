@@ -1,5 +1,4 @@
 -- Laws of stamps that proofs cite. Start with `Stamps`, then `First`.
-pub mod Contents
 pub mod Telling
 pub mod Table
 pub mod First

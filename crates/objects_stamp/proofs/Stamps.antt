@@ -16,9 +16,9 @@ use Rattle.base.proofs.Same.{same_equal, same_refl}
 use Rattle.objects_writer.specs.Writing.{tlv, tag_bytes, length_bytes}
 use Rattle.objects_reader.specs.Form.{is_clean, read_all}
 use Rattle.objects_reader.specs.Encoding.{Perhaps, absent, present, value_of, Values, encode, SizedP, Sized}
-use Rattle.objects_reader.specs.Places.{place_pairs, Noted}
+use Rattle.objects_reader.specs.Places.{place_pairs, span_at, Noted}
 use Rattle.objects_reader.specs.declared.reader.Fault.{Fault}
-use Rattle.objects_reader.specs.declared.reader.Fault.TheVariants.{Clean, Tag, Length, Depth}
+use Rattle.objects_reader.specs.declared.reader.Fault.TheVariants.{Tag, Length, Depth}
 use Rattle.objects_reader.specs.declared.reader.Reading.{Reading}
 use Rattle.objects_reader.proofs.Unique.{object_value, encode_unique}
 use Rattle.objects_reader.proofs.Exact.{all_complete, all_places, all_sound}
@@ -26,12 +26,11 @@ use Rattle.objects_reader.proofs.Sayable.{short_sayable}
 use Rattle.objects_stamp.specs.declared.chars.Chars.{Chars}
 use Rattle.objects_stamp.specs.declared.chars.Chars.TheVariants.{Letters, Text, Binary}
 use Rattle.objects_stamp.specs.declared.Reason.{Reason}
-use Rattle.objects_stamp.specs.declared.Finding.{Finding}
-use Rattle.objects_stamp.specs.declared.Finding.TheVariants.{Right, Wrong}
+use Rattle.std.specs.Prelude.{Option, None, Some, Ok, Err}
 use Rattle.objects_stamp.specs.Chars.{allows_all}
 use Rattle.objects_stamp.specs.Stamp.{Stamp, Optional, Lawful, stamp_data, stamp_places}
 use Rattle.objects_stamp.specs.Rules.{stamp_form, table_chars, chars_of, content_ok}
-use Rattle.objects_stamp.specs.FirstFault.{stamp_finding}
+use Rattle.objects_stamp.specs.FirstFault.{Finding, stamp_finding}
 use Rattle.objects_stamp.specs.Faults.{StampFaults}
 use Rattle.objects_stamp.specs.Loops.{of_fault, tells}
 use Rattle.objects_stamp.proofs.Telling.{wrong_right, tells-clean, told-first}
@@ -50,17 +49,17 @@ told_fault s e h = h ∙ ap (λ (r : Reading). tells (content_ok s) r 13 0) e �
 
 -- ---- what is told where nothing is wrong
 
-clean-right : (f : Fault) (at : ℕ) → is_clean f ≡ true → of_fault f at ≡ Right
-clean-right Clean at e = refl
-clean-right Tag at e = false-true e
-clean-right Length at e = false-true e
-clean-right Depth at e = false-true e
+clean-right : (f : Option Fault) (at : ℕ) → is_clean f ≡ true → of_fault f at ≡ Ok tt
+clean-right None at e = refl
+clean-right (Some Tag) at e = false-true e
+clean-right (Some Length) at e = false-true e
+clean-right (Some Depth) at e = false-true e
 
 module _ (ok : ℕ → ℕ → ℕ → Bool) (q : Reading) where
   abbrev ok_at : ℕ → Bool
-  ok_at k = ok k (get_or q.starts k 0) (get_or q.lens k 0)
+  ok_at k = let p = span_at q k in ok k p.at p.len
 
-  tells-each : (m k : ℕ) → tells ok q m k ≡ Right → (j : ℕ) → k ≤ j → j < k + m → ok_at j ≡ true
+  tells-each : (m k : ℕ) → tells ok q m k ≡ Ok tt → (j : ℕ) → k ≤ j → j < k + m → ok_at j ≡ true
   unfolding tells
   tells-each zero k e j p l = absurd (omega arith)
   tells-each (suc m) k e j p l =
@@ -70,7 +69,7 @@ module _ (ok : ℕ → ℕ → ℕ → Bool) (q : Reading) where
       (λ b. let n = eqb-false j k b in tells-each m (suc k) (simp a at e) j (omega arith) (omega arith)))
       (λ a. absurd (wrong_right (simp a at e)))
 
-  tells-right : (m k : ℕ) → is_clean q.fault ≡ true → ((j : ℕ) → j < k + m → ok_at j ≡ true) → tells ok q m k ≡ Right
+  tells-right : (m k : ℕ) → is_clean q.fault ≡ true → ((j : ℕ) → j < k + m → ok_at j ≡ true) → tells ok q m k ≡ Ok tt
   unfolding tells
   tells-right zero k c a = clean-right q.fault q.at c
   tells-right (suc m) k c a = rw (a k (omega arith)) (tells-right m (suc k) c (λ j l. a j (omega arith)))
@@ -139,7 +138,7 @@ module _ (w : List ℕ) (v : Values stamp_form) (z : Sized stamp_form v) (e : w 
       }
 
 -- what is right is the writing of a stamp that Table 11 allows
-pub stamp_sound : (s : List ℕ) → AllBytes s → stamp_finding s ≡ Right → (x : Stamp) × Lawful x × (s ≡ stamp_data x)
+pub stamp_sound : (s : List ℕ) → AllBytes s → stamp_finding s ≡ Ok tt → (x : Stamp) × Lawful x × (s ≡ stamp_data x)
 unfolding stamp_finding
 stamp_sound s b e =
     let q = read_all stamp_form s in
@@ -281,7 +280,7 @@ module _ (x : Stamp) (a : Lawful x) where
   short = let e = ap length (encoded x) in let l = stamp_most in omega arith
 
   -- nothing is wrong with the writing of a stamp that Table 11 allows
-  pub stamp_complete : stamp_finding (stamp_data x) ≡ Right
+  pub stamp_complete : stamp_finding (stamp_data x) ≡ Ok tt
   unfolding stamp_finding
   stamp_complete =
       let s = stamp_data x in
@@ -291,7 +290,7 @@ module _ (x : Stamp) (a : Lawful x) where
       ∙ tells-right (content_ok s) q 13 0 n.clean (λ k h. content-is s q (fields_of x) n k (omega arith) ∙ fitting k (omega arith))
 
   -- and the places noted are those of its fields
-  pub stamp_noted : place_pairs (read_all stamp_form (stamp_data x)).starts (read_all stamp_form (stamp_data x)).lens 13 ≡ stamp_places x
+  pub stamp_noted : place_pairs (read_all stamp_form (stamp_data x)).places 13 ≡ stamp_places x
   stamp_noted = rw (encoded x, thirteen, places_are x) at (all_places stamp_form proper few flat (values x) sized (short_sayable stamp_form (values x) short))
 
   -- and other fields have another writing
@@ -314,6 +313,6 @@ unfolding reach
 near_is = omega arith
 
 -- a fault stands near the copy-at_3, however long the record is
-pub stamp_near : (s : List ℕ) (r : Reason) (at : ℕ) → AllBytes s → stamp_finding s ≡ Wrong r at → at < 4294967296
+pub stamp_near : (s : List ℕ) (r : Reason) (at : ℕ) → AllBytes s → stamp_finding s ≡ Err (r, at) → at < 4294967296
 unfolding stamp_finding
 stamp_near s r at b e = let k = fault_near (content_ok s) stamp_form 0 0 s r at b e in let n = near_is in omega arith

@@ -12,7 +12,7 @@ use Rattle.objects_writer.specs.Writing.{tlv, tag_bytes, length_bytes}
 use Rattle.objects_reader.specs.Head.{head_of, length_of}
 use Rattle.objects_reader.specs.Encoding.{absent, present, perhaps, leaf_count}
 use Rattle.objects_stamp.specs.declared.Reason.TheVariants.{WrongTag, WrongLength, WrongContent}
-use Rattle.objects_stamp.specs.declared.Finding.TheVariants.{Right, Wrong}
+use Rattle.std.specs.Prelude.{Ok, Err}
 use Rattle.objects_stamp.specs.Chars.{is_letter, is_digit, is_special, allows_all}
 use Rattle.objects_stamp.specs.Rules.{chars_of, content_ok}
 use Rattle.objects_stamp.specs.FirstFault.{first_fault, stamp_finding}
@@ -58,7 +58,7 @@ pub full_length : length (stamp_data fullest) ≡ 391
 unfolding stamp_data perhaps tlv tag_bytes length_bytes
 full_length = refl
 
-pub full_right : stamp_finding (stamp_data fullest) ≡ Right
+pub full_right : stamp_finding (stamp_data fullest) ≡ Ok tt
 unfolding stamp_data perhaps tlv tag_bytes length_bytes stamp_finding first_fault head_of length_of content_ok chars_of allows_all same_bytes is_letter is_digit is_special leaf_count
 full_right = refl
 
@@ -66,50 +66,50 @@ pub short-length : length (stamp_data shortest) ≡ 45
 unfolding stamp_data perhaps tlv tag_bytes length_bytes
 short-length = refl
 
-pub short-right : stamp_finding (stamp_data shortest) ≡ Right
+pub short-right : stamp_finding (stamp_data shortest) ≡ Ok tt
 unfolding stamp_data perhaps tlv tag_bytes length_bytes stamp_finding first_fault head_of length_of content_ok chars_of allows_all same_bytes is_letter is_digit is_special leaf_count
 short-right = refl
 
 -- another State inside: content, at the inner one
-pub other_state : stamp_finding (set (stamp_data shortest) 11 0x54) ≡ Wrong WrongContent 8
+pub other_state : stamp_finding (set (stamp_data shortest) 11 0x54) ≡ Err (WrongContent, 8)
 unfolding stamp_data perhaps tlv tag_bytes length_bytes stamp_finding first_fault head_of length_of content_ok chars_of allows_all same_bytes is_letter is_digit is_special leaf_count
 other_state = refl
 
 -- a byte behind the last
-pub byte-behind : stamp_finding (stamp_data shortest ++ (0 ∷ [])) ≡ Wrong WrongTag 45
+pub byte-behind : stamp_finding (stamp_data shortest ++ (0 ∷ [])) ≡ Err (WrongTag, 45)
 unfolding stamp_data perhaps tlv tag_bytes length_bytes stamp_finding first_fault head_of length_of content_ok chars_of allows_all same_bytes is_letter is_digit is_special leaf_count
 byte-behind = refl
 
 -- half of the last object: its length goes past the record
-pub cut_short : stamp_finding (take 44 (stamp_data shortest)) ≡ Wrong WrongLength 41
+pub cut_short : stamp_finding (take 44 (stamp_data shortest)) ≡ Err (WrongLength, 41)
 unfolding stamp_data perhaps tlv tag_bytes length_bytes stamp_finding first_fault head_of length_of content_ok chars_of allows_all same_bytes is_letter is_digit is_special leaf_count
 cut_short = refl
 
 -- two faults, a content and behind it a tag: the first is told
-pub two_faults : stamp_finding (set (set (stamp_data shortest) 17 0x2F) 41 0) ≡ Wrong WrongContent 14
+pub two_faults : stamp_finding (set (set (stamp_data shortest) 17 0x2F) 41 0) ≡ Err (WrongContent, 14)
 unfolding stamp_data perhaps tlv tag_bytes length_bytes stamp_finding first_fault head_of length_of content_ok chars_of allows_all same_bytes is_letter is_digit is_special leaf_count
 two_faults = refl
 
 -- 00 and FF are no references
-pub reference_00 : stamp_finding (set (stamp_data shortest) 44 0x00) ≡ Wrong WrongContent 41
+pub reference_00 : stamp_finding (set (stamp_data shortest) 44 0x00) ≡ Err (WrongContent, 41)
 unfolding stamp_data perhaps tlv tag_bytes length_bytes stamp_finding first_fault head_of length_of content_ok chars_of allows_all same_bytes is_letter is_digit is_special leaf_count
 reference_00 = refl
 
-pub reference_ff : stamp_finding (set (stamp_data shortest) 44 0xFF) ≡ Wrong WrongContent 41
+pub reference_ff : stamp_finding (set (stamp_data shortest) 44 0xFF) ≡ Err (WrongContent, 41)
 unfolding stamp_data perhaps tlv tag_bytes length_bytes stamp_finding first_fault head_of length_of content_ok chars_of allows_all same_bytes is_letter is_digit is_special leaf_count
 reference_ff = refl
 
 -- a length of 8 in two bytes; and one that goes past `73`, though not past the record
-pub not-shortest : stamp_finding (take 16 (stamp_data shortest) ++ (0x81 ∷ drop 16 (stamp_data shortest))) ≡ Wrong WrongLength 14
+pub not-shortest : stamp_finding (take 16 (stamp_data shortest) ++ (0x81 ∷ drop 16 (stamp_data shortest))) ≡ Err (WrongLength, 14)
 unfolding stamp_data perhaps tlv tag_bytes length_bytes stamp_finding first_fault head_of length_of content_ok chars_of allows_all same_bytes is_letter is_digit is_special leaf_count
 not-shortest = refl
 
-pub past_73 : stamp_finding (set (stamp_data shortest) 35 5) ≡ Wrong WrongLength 33
+pub past_73 : stamp_finding (set (stamp_data shortest) 35 5) ≡ Err (WrongLength, 33)
 unfolding stamp_data perhaps tlv tag_bytes length_bytes stamp_finding first_fault head_of length_of content_ok chars_of allows_all same_bytes is_letter is_digit is_special leaf_count
 past_73 = refl
 
 -- the inspector is missing at the end of `73`, where the signature stands, whose length is wrong, too: the tag is told
-pub one-offset : stamp_finding (take 7 (stamp_data shortest) ++ (0x19 ∷ (take 25 (drop 8 (stamp_data shortest)) ++ (0x5F ∷ 0x37 ∷ 0x00 ∷ [])))) ≡ Wrong WrongTag 33
+pub one-offset : stamp_finding (take 7 (stamp_data shortest) ++ (0x19 ∷ (take 25 (drop 8 (stamp_data shortest)) ++ (0x5F ∷ 0x37 ∷ 0x00 ∷ [])))) ≡ Err (WrongTag, 33)
 unfolding stamp_data perhaps tlv tag_bytes length_bytes stamp_finding first_fault head_of length_of content_ok chars_of allows_all same_bytes is_letter is_digit is_special leaf_count
 one-offset = refl
 

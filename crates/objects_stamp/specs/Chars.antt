@@ -1,5 +1,6 @@
 -- The characters that the fields of a stamp may have.
-use Rattle.std.specs.Prelude.{ℕ, List, [], ◌∷◌, Bool, true, ◌&&◌, ◌||◌, leb, eqb}
+use Rattle.std.specs.Prelude.{ℕ, List, Bool, true, ◌&&◌, ◌||◌, leb, eqb}
+use Rattle.std.specs.List.{list_all}
 use Rattle.objects_stamp.specs.declared.chars.Chars.{Chars}
 use Rattle.objects_stamp.specs.declared.chars.Chars.TheVariants.{Letters, Digits, Text, Binary, Reference}
 
@@ -29,5 +30,4 @@ allows Reference b = between 0x01 0xFE b
 
 -- they have each of the bytes [TR2]
 unfoldable pub allows_all : Chars → List ℕ → Bool
-allows_all c [] = true
-allows_all c (b ∷ v) = allows c b && allows_all c v
+allows_all c v = list_all (allows c) v

@@ -1,10 +1,9 @@
 -- What is wrong with a record: every fault of every object whose place can be told, the first and the others.
-use Rattle.std.specs.Prelude.{ℕ, suc, ◌+◌, ◌≤◌, ◌<◌, ◌≡◌, List, Bool, true, false, ◌⊎◌, length, take, drop}
-use Rattle.objects_reader.specs.Head.{head_of}
+use Rattle.std.specs.Prelude.{ℕ, suc, ◌+◌, ◌≤◌, ◌<◌, ◌≡◌, List, Bool, true, false, ◌⊎◌, length, take, drop, Ok, Err}
+use Rattle.objects_reader.specs.Head.{head_of, Head}
 use Rattle.objects_reader.specs.Form.{Form, done, plain, maybe, nested, of_size}
 use Rattle.objects_reader.specs.Encoding.{leaf_count}
-use Rattle.objects_reader.specs.declared.head.Head.{Head}
-use Rattle.objects_reader.specs.declared.head.Head.TheVariants.{Body, NoTag, NoLength}
+use Rattle.objects_reader.specs.declared.head.HeadFault.TheVariants.{NoTag, NoLength}
 use Rattle.objects_stamp.specs.declared.Reason.{Reason}
 use Rattle.objects_stamp.specs.declared.Reason.TheVariants.{WrongTag, WrongLength, WrongContent}
 use Rattle.objects_stamp.specs.Rules.{stamp_form, content_ok}
@@ -26,18 +25,18 @@ OnlyAt a at r p = (r ≡ a) × (p ≡ at)
 -- A field that should stand at `at`: its tag does not, or it has no length that can be read, and then what follows cannot be told; or it
 -- stands there, and its size can be wrong, its content, and what follows. [TR7]
 abbrev pub FieldFaults : Head → (lo hi at : ℕ) → (content : ℕ → ℕ → Bool) → (behind : ℕ → Faults) → (missing : Faults) → Faults
-FieldFaults NoTag lo hi at content behind missing r p = missing r p
-FieldFaults NoLength lo hi at content behind missing r p = OnlyAt WrongLength at r p
-FieldFaults (Body start len) lo hi at content behind missing r p =
+FieldFaults (Err NoTag) lo hi at content behind missing r p = missing r p
+FieldFaults (Err NoLength) lo hi at content behind missing r p = OnlyAt WrongLength at r p
+FieldFaults (Ok (start, len)) lo hi at content behind missing r p =
     ((of_size lo hi len true false ≡ false) × OnlyAt WrongLength at r p)
     ⊎ (((content (at + start) len ≡ false) × OnlyAt WrongContent at r p)
     ⊎ behind (start + len) r p)
 
 -- an object of objects: what is wrong inside, and what is wrong behind [TR7]
 abbrev pub NestFaults : Head → (at : ℕ) → (within : ℕ → ℕ → Faults) → (behind : ℕ → Faults) → Faults
-NestFaults NoTag at within behind r p = OnlyAt WrongTag at r p
-NestFaults NoLength at within behind r p = OnlyAt WrongLength at r p
-NestFaults (Body start len) at within behind r p = within start len r p ⊎ behind (start + len) r p
+NestFaults (Err NoTag) at within behind r p = OnlyAt WrongTag at r p
+NestFaults (Err NoLength) at within behind r p = OnlyAt WrongLength at r p
+NestFaults (Ok (start, len)) at within behind r p = within start len r p ⊎ behind (start + len) r p
 
 -- What is wrong with s, which starts at `at` in the record and whose first field is the k-th of the table. Behind the last object nothing may
 -- stand. `ok k start len` says whether the k-th field may have the len bytes from start on for its content. [TR7]

@@ -15,25 +15,28 @@ pub enum Chars {
 fn between(lo: u8, hi: u8, b: u8) -> bool
     ensures { result ≡ between lo hi b }
 {
-    (lo <= b) & (b <= hi)
+    lo <= b && b <= hi
 }
 
+#[tactic(auto, unfolding(crate::specs::Chars::is_letter))]
 fn letter(b: u8) -> bool
     ensures { result ≡ is_letter b }
 {
-    between(0x41, 0x5A, b) | between(0x61, 0x7A, b)
+    between(b'A', b'Z', b) || between(b'a', b'z', b)
 }
 
+#[tactic(auto, unfolding(crate::specs::Chars::is_digit))]
 fn digit(b: u8) -> bool
     ensures { result ≡ is_digit b }
 {
-    between(0x30, 0x39, b)
+    between(b'0', b'9', b)
 }
 
+#[tactic(auto, unfolding(crate::specs::Chars::is_special))]
 fn special(b: u8) -> bool
     ensures { result ≡ is_special b }
 {
-    (b == 0x3C) | (b == 0x20)
+    b == b'<' || b == b' '
 }
 
 fn allows(c: Chars, b: u8) -> bool
@@ -42,7 +45,7 @@ fn allows(c: Chars, b: u8) -> bool
     match c {
         Chars::Letters => letter(b),
         Chars::Digits => digit(b),
-        Chars::Text => letter(b) | (digit(b) | special(b)),
+        Chars::Text => letter(b) || digit(b) || special(b),
         Chars::Binary => true,
         Chars::Reference => between(0x01, 0xFE, b),
     }
@@ -52,12 +55,5 @@ fn allows(c: Chars, b: u8) -> bool
 pub fn allows_all(c: Chars, v: &[u8]) -> bool
     ensures { result ≡ allows_all c v.now }
 {
-    let mut i = 0;
-    while i < v.len() {
-        if !allows(c, v[i]) {
-            return false;
-        }
-        i += 1;
-    }
-    true
+    v.iter().all(|b| allows(c, *b))
 }

@@ -5,15 +5,14 @@
 
 pub mod chars;
 
-ghost use Rattle.std.specs.Prelude.{◌≡◌, ℕ, ◌<◌, ◌≤◌, length, get_or};
+ghost use Rattle.std.specs.Prelude.{◌≡◌, ℕ, ◌<◌, ◌≤◌, length};
 ghost use Rattle.std.proofs.lemmas.List.Edits.{sets};
-ghost use Rattle.objects_reader.specs.Places.{place_pairs};
+ghost use Rattle.objects_reader.specs.Places.{place_pairs, span_at};
 ghost use Rattle.objects_stamp.specs.Rules.{chars_of, content_ok};
 ghost use Rattle.objects_stamp.specs.Loops.{of_fault, object_at, tells};
 ghost use Rattle.objects_stamp.specs.Read.{read_stamp, read_stamp_into};
 
-use base::natural::saturating_sub;
-use base::{part, same_bytes};
+use base::part;
 use chars::{Chars, allows_all};
 use objects_reader::reader::{Fault, Reading, read_all};
 
@@ -25,18 +24,14 @@ pub enum Reason {
     WrongContent,
 }
 
-// Nothing is wrong, or this is, with the object whose first byte stands (or should stand) at that place.
-#[derive(Clone, Copy)]
-pub enum Finding {
-    Right,
-    Wrong(Reason, usize),
-}
+// Nothing is wrong; or this is, as (reason, at), with the object whose first byte stands (or should stand) at that place.
+pub type Finding = Result<(), (Reason, usize)>;
 
-// What is answered for a record and a list: what was found; or that the list is too short for the places of a stamp.
+// Why a list does not get the places of a stamp: it is too short for them; or the record is no stamp, for this reason, at that place.
 #[derive(Clone, Copy)]
-pub enum StampRead {
-    Told(Finding),
+pub enum StampFault {
     ShortList,
+    Wrong(Reason, usize),
 }
 
 // Table 11: tag, rows inside, 0 where optional, fewest and most bytes.
@@ -74,28 +69,23 @@ pub const FIELDS: [Chars; 13] = [
     Chars::Reference,
 ];
 
+#[tactic(auto, unfolding(crate::specs::Rules::chars_of))]
 fn chars_of(k: usize) -> Chars
     requires { k < 13 }
     ensures { result ≡ chars_of k }
 {
-    let table = FIELDS;
-    table[k]
+    FIELDS[k]
 }
 
 // Whether the k-th field may be the len bytes of the record from start on. The State inside `73` is also the copy, whose value stands
 // behind two bytes of tag and one of length.
+#[tactic(auto, using(base::proofs::Same::same_pointwise), unfolding(crate::specs::Rules::content_ok))]
 fn content_ok(s: &[u8], k: usize, start: usize, len: usize) -> bool
     requires { k < 13 }
     ensures { result ≡ content_ok s.now k start len }
 {
     let v = part(s, start, len);
-    if !allows_all(chars_of(k), v) {
-        return false;
-    }
-    if k == 1 {
-        return same_bytes(v, part(s, 3, len));
-    }
-    true
+    allows_all(chars_of(k), v) && (k != 1 || v == part(s, 3, len))
 }
 
 // Where the object starts whose value is the len bytes from start on: before two bytes of tag and, up to 127 bytes of value, one of length, else
@@ -103,20 +93,16 @@ fn content_ok(s: &[u8], k: usize, start: usize, len: usize) -> bool
 fn object_at(start: usize, len: usize) -> usize
     ensures { result ≡ object_at start len }
 {
-    if len < 128 {
-        return saturating_sub(start, 3);
-    }
-    saturating_sub(start, 4)
+    start.saturating_sub(if len < 128 { 3 } else { 4 })
 }
 
-fn of_fault(fault: Fault, at: usize) -> Finding
+fn of_fault(fault: Option<Fault>, at: usize) -> Finding
     ensures { result ≡ of_fault fault at }
 {
     match fault {
-        Fault::Clean => Finding::Right,
-        Fault::Tag => Finding::Wrong(Reason::WrongTag, at),
-        Fault::Length => Finding::Wrong(Reason::WrongLength, at),
-        Fault::Depth => Finding::Wrong(Reason::WrongLength, at),
+        None => Ok(()),
+        Some(Fault::Tag) => Err((Reason::WrongTag, at)),
+        Some(Fault::Length | Fault::Depth) => Err((Reason::WrongLength, at)),
     }
 }
 
@@ -125,54 +111,40 @@ fn of_fault(fault: Fault, at: usize) -> Finding
 fn tell(s: &[u8], r: Reading) -> Finding
     ensures { result ≡ tells (content_ok s.now) r 13 0 }
 {
-    let starts = r.starts;
-    let lens = r.lens;
-    let mut k = 0;
-    while k < 13 {
-        let start = starts[k];
-        let len = lens[k];
-        if !content_ok(s, k, start, len) {
-            return Finding::Wrong(Reason::WrongContent, object_at(start, len));
+    for k in 0..13 {
+        let p = r.places[k];
+        if !content_ok(s, k, p.at, p.len) {
+            return Err((Reason::WrongContent, object_at(p.at, p.len)));
         }
-        k += 1;
     }
-    let fault = r.fault;
-    of_fault(fault, r.at)
+    of_fault(r.fault, r.at)
 }
 
 // Writes the places of the thirteen fields: of each its start and its length.
 fn write(r: Reading, places: &mut [u32])
-    requires { (26 ≤ length places.old) × ((k : ℕ) → get_or r.starts k 0 < 4294967296) × ((k : ℕ) → get_or r.lens k 0 < 4294967296) }
-    ensures { places.new ≡ sets places.old 0 (place_pairs r.starts r.lens 13) }
+    requires { (26 ≤ length places.old) × ((k : ℕ) → (span_at r k).at < 4294967296) × ((k : ℕ) → (span_at r k).len < 4294967296) }
+    ensures { places.new ≡ sets places.old 0 (place_pairs r.places 13) }
 {
-    let starts = r.starts;
-    let lens = r.lens;
-    let mut i = 0;
-    while i < 13 {
-        let start = starts[i];
-        let len = lens[i];
-        places[2 * i] = start as u32;
-        places[2 * i + 1] = len as u32;
-        i += 1;
+    for i in 0..13 {
+        places[2 * i] = r.places[i].at as u32;
+        places[2 * i + 1] = r.places[i].len as u32;
     }
 }
 
 // Reads a record as a stamp. The list gets the places of its fields, of each the start and the length, where nothing is wrong; else it
 // stays.
-pub fn read_stamp(s: &[u8], places: &mut [u32]) -> StampRead
+pub fn read_stamp(s: &[u8], places: &mut [u32]) -> Result<(), StampFault>
     ensures { (result ≡ read_stamp s.now places.old) × (places.new ≡ read_stamp_into s.now places.old) }
 {
     if places.len() < 26 {
-        return StampRead::ShortList;
+        return Err(StampFault::ShortList);
     }
-    let form = STAMP;
-    let r = read_all(s, &form);
-    let f = tell(s, r);
-    match f {
-        Finding::Right => {
+    let r = read_all(s, &STAMP);
+    match tell(s, r) {
+        Ok(()) => {
             write(r, places);
-            StampRead::Told(Finding::Right)
+            Ok(())
         }
-        Finding::Wrong(reason, at) => StampRead::Told(Finding::Wrong(reason, at)),
+        Err((reason, at)) => Err(StampFault::Wrong(reason, at)),
     }
 }

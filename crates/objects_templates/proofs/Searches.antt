@@ -21,16 +21,16 @@ use Rattle.objects_reader.specs.Places.{number_in, number_at, Noted}
 use Rattle.objects_templates.specs.Search.{SearchFields, search_data, search_form, search_of, ask_of, read_search, SearchSized, Searches}
 use Rattle.objects_reader.specs.declared.reader.Reading.{Reading}
 use Rattle.objects_templates.specs.declared.Search.{Search}
-use Rattle.objects_templates.specs.declared.Query.TheVariants.{Ask, NoQuery}
 use Rattle.objects_reader.proofs.Within.{read-within}
 use Rattle.objects_reader.proofs.Unique.{length-tlv}
 use Rattle.objects_reader.proofs.Taking.{Readable, read_as_facts, read_as_sound, read_by_noted, read_as_complete, read_as_unique, number_at-noted}
+use Rattle.std.specs.Prelude.{Some, None}
 
 readable : Readable search_form
 unfolding Proper leaf_count deep
 readable = record { proper = omega arith; few = omega arith; flat = omega arith }
 
-refused-not : {q : Search} → NoQuery ≡ Ask q → ⊥
+refused-not : {q : Search} → None ≡ Some q → ⊥
 refused-not {q} e = let z : ◌≡◌ {A = ℕ} 0 1 = cc in omega arith
 
 abbrev values : SearchFields → Values search_form
@@ -66,13 +66,13 @@ single (a ∷ []) p q = refl
 single (a ∷ b ∷ l) p q = absurd (omega arith)
 
 -- what is asked by a mode that is one of the two
-asks : (s : List ℕ) (r : Reading) → (number_at s r 1 ≡ 0) ⊎ (number_at s r 1 ≡ 0x30) → ask_of s r ≡ Ask (search_of s r)
+asks : (s : List ℕ) (r : Reading) → (number_at s r 1 ≡ 0) ⊎ (number_at s r 1 ≡ 0x30) → ask_of s r ≡ Some (search_of s r)
 asks s r m = ⊎_elim
     (λ e. simp (eq-eqb (number_at s r 1) 0 e))
-    (λ e. let k : ask_of s r ≡ Ask (search_of s r) = simp (ne_eqb (number_at s r 1) 0 (omega arith), eq-eqb (number_at s r 1) 0x30 e) in k)
+    (λ e. let k : ask_of s r ≡ Some (search_of s r) = simp (ne_eqb (number_at s r 1) 0 (omega arith), eq-eqb (number_at s r 1) 0x30 e) in k)
     m
 
-module _ (s : List ℕ) (r : Reading) (q : Search) (e : ask_of s r ≡ Ask q) where
+module _ (s : List ℕ) (r : Reading) (q : Search) (e : ask_of s r ≡ Some q) where
   mode_of : (number_at s r 1 ≡ 0) ⊎ (number_at s r 1 ≡ 0x30)
   mode_of =
       by_cases (eqb (number_at s r 1) 0) (λ a. inl (eqb-true _ 0 a))
@@ -81,10 +81,10 @@ module _ (s : List ℕ) (r : Reading) (q : Search) (e : ask_of s r ≡ Ask q) wh
   search_is : search_of s r ≡ q
   search_is = let k = sym (asks s r mode_of) ∙ e in cc
 
-module _ (s : List ℕ) (q : Search) (e : read_search s ≡ Ask q) where
-  asked_is : ask_of s (read_by search_form s) ≡ Ask q
+module _ (s : List ℕ) (q : Search) (e : read_search s ≡ Some q) where
+  asked_is : ask_of s (read_by search_form s) ≡ Some q
   unfolding read_search
-  asked_is = (read_as_facts search_form s (ask_of s) NoQuery (Ask q) e refused-not).1
+  asked_is = (read_as_facts search_form s (ask_of s) None (Some q) e refused-not).1
 
   -- every place answered lies inside the data
   pub search_inside : (q.file.at + q.file.len ≤ length s) × (q.text.at + q.text.len ≤ length s)
@@ -96,7 +96,7 @@ module _ (s : List ℕ) (q : Search) (e : read_search s ≡ Ask q) where
   pub search_sound : AllBytes s → (x : SearchFields) × Searches s q x
   unfolding read_search Sized leaves
   search_sound b =
-      let t = read_as_sound search_form s (ask_of s) NoQuery (Ask q) e refused-not readable b in
+      let t = read_as_sound search_form s (ask_of s) None (Some q) e refused-not readable b in
       let v = t.values in
       let z = t.sized in
       let modes = v.0.1.0.0 in
@@ -138,7 +138,7 @@ module _ (x : SearchFields) (z : SearchSized x) where
       ((f.0, f.1, ((omega arith, omega arith, ((o.0, o.1, (n.0, n.1, tt)), tt)), (((z.text_size, text-fits, tt), tt), tt))), tt)
 
   -- every writing of fields of these sizes is taken
-  pub search_complete : (q : Search) × (read_search (search_data x) ≡ Ask q) × Searches (search_data x) q x
+  pub search_complete : (q : Search) × (read_search (search_data x) ≡ Some q) × Searches (search_data x) q x
   unfolding read_search
   search_complete =
       let s = search_data x in
@@ -146,7 +146,7 @@ module _ (x : SearchFields) (z : SearchSized x) where
       let n = read_by_noted search_form readable (values x) s (encoded x) z.whole sized in
       let m = mode-noted s r x n in (
         search_of s r,
-        read_as_complete search_form readable (values x) s (encoded x) z.whole (ask_of s) NoQuery sized ∙ asks s r (⊎_elim (λ e. inl (m ∙ e)) (λ e. inr (m ∙ e)) z.mode_is),
+        read_as_complete search_form readable (values x) s (encoded x) z.whole (ask_of s) None sized ∙ asks s r (⊎_elim (λ e. inl (m ∙ e)) (λ e. inr (m ∙ e)) z.mode_is),
         describe s x r refl z n,
       )
 
@@ -156,6 +156,6 @@ module _ (x : SearchFields) (z : SearchSized x) where
 
 -- m6 of the card to try, computed
 pub m6 : read_search (0x7F ∷ 0x76 ∷ 0x19 ∷ 0x51 ∷ 0x01 ∷ 0x01 ∷ 0xA1 ∷ 0x0B ∷ 0x80 ∷ 0x01 ∷ 0x00 ∷ 0xB0 ∷ 0x06 ∷ 0x02 ∷ 0x01 ∷ 0x03 ∷ 0x02 ∷ 0x01 ∷ 0x03 ∷ 0xA3 ∷ 0x07 ∷ 0xB1 ∷ 0x05 ∷ 0x81 ∷ 0x03 ∷ 0x46 ∷ 0x52 ∷ 0x41 ∷ [])
-    ≡ Ask (record { file = record { at = 5; len = 1 }; one = false; offset = 3; number = 3; text = record { at = 25; len = 3 } })
+    ≡ Some (record { file = record { at = 5; len = 1 }; one = false; offset = 3; number = 3; text = record { at = 25; len = 3 } })
 unfolding read_search read_by read_form head_of length_of number_in big
 m6 = refl

@@ -1,6 +1,6 @@
 -- What the contracts of reading the data of commands cite.
-pub mod Span
 pub mod OffsetObject
 pub mod Reference
 pub mod Search
 pub mod Update
+pub use Rattle.objects_reader.specs.declared.reader.Span

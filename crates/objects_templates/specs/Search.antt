@@ -1,15 +1,13 @@
 -- The data of SEARCH RECORD.
-use Rattle.std.specs.Prelude.{ℕ, ◌≤◌, ◌≡◌, ◌⊎◌, List, [], ◌∷◌, ◌++◌, length, eqb}
+use Rattle.std.specs.Prelude.{ℕ, ◌≤◌, ◌≡◌, ◌⊎◌, List, [], ◌∷◌, ◌++◌, length, eqb, Option, Some, None}
 use Rattle.base.specs.Choice.{if_else}
 use Rattle.objects_writer.specs.Number.{big}
 use Rattle.objects_writer.specs.Writing.{tlv}
 use Rattle.objects_reader.specs.Form.{Form, done, plain, nested}
 use Rattle.objects_reader.specs.Places.{number_at, read_as, Placed}
-use Rattle.objects_templates.specs.Span.{span_at}
+use Rattle.objects_reader.specs.Places.{span_at}
 use Rattle.objects_reader.specs.declared.reader.Reading.{Reading}
 use Rattle.objects_templates.specs.declared.Search.{Search}
-use Rattle.objects_templates.specs.declared.Query.{Query}
-use Rattle.objects_templates.specs.declared.Query.TheVariants.{Ask, NoQuery}
 
 -- the fields of a search [Q2]
 pub record SearchFields : Type 0 where
@@ -48,12 +46,12 @@ search_of s r = record {
 }
 
 -- the mode is 00 or 30, else there is no search [Q3]
-abbrev pub ask_of : List ℕ → Reading → Query
-ask_of s r = if_else (eqb (number_at s r 1) 0) (Ask (search_of s r)) (if_else (eqb (number_at s r 1) 0x30) (Ask (search_of s r)) NoQuery)
+abbrev pub ask_of : List ℕ → Reading → Option Search
+ask_of s r = if_else (eqb (number_at s r 1) 0) (Some (search_of s r)) (if_else (eqb (number_at s r 1) 0x30) (Some (search_of s r)) None)
 
 -- what is answered for data: anything else is refused, which is 6A80 [Q2] [D5]
-unfoldable pub read_search : List ℕ → Query
-read_search s = read_as search_form s (ask_of s) NoQuery
+unfoldable pub read_search : List ℕ → Option Search
+read_search s = read_as search_form s (ask_of s) None
 
 -- fields of the sizes that are allowed, in data of at most 65,535 bytes [Q3] [Q4] [Q5]
 pub record SearchSized (x : SearchFields) : Type 0 where

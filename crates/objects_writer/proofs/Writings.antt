@@ -1,6 +1,5 @@
 -- What the writers of this crate store: heads, objects, numbers. Read before: specs/Writer.antt, specs/Writing.antt. Exports the laws of
--- `put_end`, `head_bytes` and `length_bytes` as the code has them, `put-tlv`, and `digits-turn` and `digits-done` (one turn of the loop that
--- stores a number, and its end).
+-- `put_end`, `head_bytes` and `length_bytes` as the code has them, `put-tlv`, and `digits-turn` (one turn of the loop that stores a number).
 use Prim.Native.Nat.{ℕ, suc, ◌+◌, ◌-◌, ◌/◌, ◌%◌, ◌≤◌, ◌<◌}
 use mathlib.Core.Path.{◌≡◌, refl, sym, ap, ap₂, ◌∙◌}
 use mathlib.Core.Bool.{true, false}
@@ -125,20 +124,16 @@ set-sets l i p (v ∷ vs) x h =
     ∙ set-sets (set l i v) (suc i) p vs x (omega arith)
 
 -- one digit stored, from the right: it is the last of those that were left
-pub digits-turn : (l : List ℕ) (at k i rest : ℕ) → i < k
-    → sets (set l (at + (k - (i + 1))) (rest % 256)) at (digits (k - (i + 1)) (rest / 256)) ≡ sets l at (digits (k - i) rest)
-digits-turn l at k i rest h =
-    let j = k - (i + 1) in
+pub digits-turn : (l : List ℕ) (at i rest : ℕ) → 0 < i
+    → sets (set l (at + (i - 1)) (rest % 256)) at (digits (i - 1) (rest / 256)) ≡ sets l at (digits i rest)
+digits-turn l at i rest h =
+    let j = i - 1 in
     let d = digits j (rest / 256) in
     let e = length_digits j (rest / 256) in
-    let t : suc j ≡ k - i = omega arith in
+    let t : suc j ≡ i = omega arith in
     set-sets l at (at + j) d (rest % 256) (omega arith)
     ∙ sym (sets_snoc l at d (rest % 256) ∙ ap (λ (x : ℕ). set (sets l at d) (at + x) (rest % 256)) e)
     ∙ ap (λ (x : ℕ). sets l at (digits x rest)) t
-
--- none is left
-pub digits-done : (l : List ℕ) (at k i rest : ℕ) → k ≤ i → l ≡ sets l at (digits (k - i) rest)
-digits-done l at k i rest h = ap (λ (x : ℕ). sets l at (digits x rest)) (let t : 0 ≡ k - i = omega arith in t)
 
 -- the object of a number: its length is one byte
 module _ (out : List ℕ) (at tag n k : ℕ) (p : tag < 256) (q : k ≡ bytes_of n) where

@@ -10,8 +10,6 @@ ghost use Rattle.objects_writer.specs.Writing.{tlv};
 ghost use Rattle.objects_writer.specs.Writer.{head_bytes, put_end};
 ghost use Rattle.objects_writer.specs.Fitting.{longest_within};
 
-use base::natural::{min, saturating_sub};
-
 // How many bytes n takes: the fewest, and at least one. The highest set bit says it; zero has none.
 pub fn fewest(n: usize) -> usize
     ensures { result ≡ bytes_of n }
@@ -29,12 +27,12 @@ pub fn longest_within(limit: u16, most: usize) -> usize
 {
     let n = limit as usize;
     if n < 131 {
-        return min(most, min(127, saturating_sub(n, 2)));
+        return most.min(n.saturating_sub(2).min(127));
     }
     if n < 260 {
-        return min(most, min(255, n - 3));
+        return most.min((n - 3).min(255));
     }
-    min(most, n - 4)
+    most.min(n - 4)
 }
 
 // Stores b from `at` on, where all of it fits. Answers the place behind what is stored.
@@ -89,12 +87,10 @@ fn put_digits(out: &mut [u8], at: usize, k: usize, n: usize)
     requires { at + k ≤ length out.old }
     ensures { out.new ≡ sets out.old at (digits k n) }
 {
-    let mut i = 0;
     let mut rest = n;
-    while i < k {
-        i += 1;
-        out[at + (k - i)] = (rest % 256) as u8;
-        rest = rest / 256;
+    for i in (0..k).rev() {
+        out[at + i] = (rest % 256) as u8;
+        rest /= 256;
     }
 }
 

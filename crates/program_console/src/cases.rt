@@ -11,9 +11,23 @@ pub fn next(out: Stdout, s: &[u8], at: usize, left: usize) -> usize
     ensures { (result ≡ if_else (leb (length s.now - at) left) (length s.now) (length s.now - left)) × (at < length s.now → at < result) }
 {
     let n = s.len();
-    if base::natural::saturating_sub(n, at) <= left {
+    if n.saturating_sub(at) <= left {
         word(out, b"a torn or unknown case\n");
         return n;
     }
     n - left
+}
+
+// Answers the cases of s in turn, up to the first that is torn or unknown. `case` answers the one that its bytes begin with and gives what stands
+// behind it, none where it is torn or unknown. The loop stays a `while`: a case says how long it is.
+pub fn answer_all<'a, F: FnMut(&'a [u8]) -> Option<&'a [u8]>>(out: Stdout, s: &'a [u8], mut case: F)
+    requires { F.IsAlwaysCallable case }
+    ensures { Unit {0} }
+{
+    let mut at = 0;
+    while at < s.len() {
+        let rest = base::part(s, at, s.len());
+        let left = case(rest).map_or(rest.len(), |behind| behind.len());
+        at = next(out, s, at, left);
+    }
 }

@@ -9,7 +9,7 @@ pub mod words;
 
 ghost use Rattle.std.specs.Prelude.{◌≡◌, ◌≤◌, length, replicate};
 
-use std::io::{Read, Stderr, Stdin, Stdout};
+use std::io::{Cursor, Read, Stderr, Stdin, Stdout, Write};
 
 // Writes a word.
 pub fn word(out: Stdout, s: &[u8])
@@ -51,58 +51,30 @@ pub fn field(out: Stdout, n: usize)
 pub fn flag(out: Stdout, yes: bool)
     ensures { Unit {0} }
 {
-    if yes {
-        word(out, b" 1");
-    } else {
-        word(out, b" 0");
-    }
+    word(out, if yes { b" 1" } else { b" 0" });
 }
 
-// A digit: test programs write small letters, as their tables have them, and card tools capitals.
-fn digit(n: u8, capital: bool) -> u8 {
-    let d = n % 16;
-    if d < 10 {
-        return d + 48;
+// How many bytes are written at once, since each write is a call of the system.
+const AT_ONCE: usize = 1024;
+
+// Writes at most AT_ONCE bytes in hexadecimal: card tools have capitals and a space before each byte, the tables of test programs small letters.
+fn some(out: Stdout, s: &[u8], for_tools: bool) {
+    let mut text = Cursor::new([0; 3072]);
+    for b in s {
+        let _ = if for_tools {
+            write!(text, " {b:02X}")
+        } else {
+            write!(text, "{b:02x}")
+        };
     }
-    if capital {
-        return d + 55;
-    }
-    d + 87
+    let n = text.position() as usize;
+    word(out, base::part(&text.into_inner(), 0, n));
 }
 
-// Writes the first 1,024 bytes of s, or all where there are fewer, with `gap` spaces before each. They are written at once, since each
-// write is a call of the system.
-fn some(out: Stdout, s: &[u8], capital: bool, gap: usize)
-    requires { gap ≤ 1 }
-{
-    let mut text = [32; 3072];
-    let mut at = 0;
-    let mut i = 0;
-    while i < 1024 {
-        if s.len() <= i {
-            word(out, &text[..at]);
-            return;
-        }
-        at += gap;
-        text[at] = digit(s[i] / 16, capital);
-        text[at + 1] = digit(s[i], capital);
-        at += 2;
-        i += 1;
-    }
-    word(out, &text[..at]);
-}
-
-// Writes the bytes of s in hexadecimal, with `gap` spaces before each.
-fn hexadecimal(out: Stdout, s: &[u8], capital: bool, gap: usize)
-    requires { gap ≤ 1 }
-{
-    let mut at = 0;
-    while at < s.len() {
-        some(out, base::part(s, at, 1024), capital, gap);
-        if s.len() - at <= 1024 {
-            return;
-        }
-        at += 1024;
+// Writes the bytes of s in hexadecimal, as `some` does.
+fn hexadecimal(out: Stdout, s: &[u8], for_tools: bool) {
+    for piece in s.chunks(AT_ONCE) {
+        some(out, piece, for_tools);
     }
 }
 
@@ -111,20 +83,21 @@ pub fn bytes(out: Stdout, s: &[u8])
     ensures { Unit {0} }
 {
     word(out, b" ");
-    if s.len() == 0 {
+    if s.is_empty() {
         word(out, b"-");
     }
-    hexadecimal(out, s, false, 0);
+    hexadecimal(out, s, false);
 }
 
 // Writes the bytes of s as card tools do, a space before each.
 pub fn spell(out: Stdout, s: &[u8])
     ensures { Unit {0} }
 {
-    hexadecimal(out, s, true, 1);
+    hexadecimal(out, s, true);
 }
 
-// Room for all input, or for a card's image: more than the largest has, so that a file that is too long is known.
+// Room for all input, or for a card's image: more than the largest has, so that a file that is too long is known. The three rooms stay three
+// functions, and none takes a const parameter: each has its contract and its theorem (proofs/Determined.antt).
 pub fn room() -> [u8; 524288]
     ensures { result ≡ replicate 524288 0 }
 {
@@ -145,7 +118,8 @@ pub fn large_buffer() -> [u8; 65536]
     [0; 65536]
 }
 
-// Reads standard input until `out` is full, the input ends or a read fails. Answers how many bytes stand at the start of `out` then.
+// Reads standard input until `out` is full, the input ends or a read fails. Answers how many bytes stand at the start of `out` then. The loop
+// stays a `while`: a read says how far it goes on.
 pub fn read_full(mut input: Stdin, out: &mut [u8]) -> usize
     ensures { result ≤ length out.new }
 {

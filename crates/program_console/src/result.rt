@@ -1,6 +1,7 @@
 // The results of the functions for C, taken apart: from the low end 16 bits of status and 16 of length, or 32 of a moved card's length or of how
 // many stores a command has, or 10 of a certificate's length, 18 of its place and 4 that say whose it is; and then the number of the refusal. The
-// result of a file has 32 bits of length, and its place; that of a stamp 32 bits of offset, and the reason of its fault.
+// result of a file has 32 bits of length, and its place; that of a stamp 32 bits of offset, and the reason of its fault. They stay numbers, and no
+// enum or Option is made of them here: each contract is the number that C gets, and has a theorem (proofs/Determined.antt).
 ghost use Rattle.std.specs.Prelude.{◌≡◌, ◌/◌, ◌%◌};
 
 // The number of the refusal, 0 where there is none.

@@ -1,9 +1,10 @@
 // The certificate that a stamp names: `certificate NN` looks for it on the card at hand, `certificate NN FILE` then in the card image of
 // FILE, which stands for the desk's own copy.
 use crate::lines::How;
-use crate::status::Ended;
-use crate::{card, files, hex, status, text};
-use program_console::{result, words};
+use crate::status::Fault;
+use crate::text::Words;
+use crate::{card, hex, status};
+use program_console::result;
 use std::fs::File;
 use std::io::{Stderr, Stdout};
 use std::rt::Files;
@@ -16,7 +17,7 @@ fn body(image: &[u8]) -> &[u8] {
 
 // Says where the certificate is not.
 fn missing(out: Stdout, name: &[u8]) {
-    if name.len() == 0 {
+    if name.is_empty() {
         program_console::word(out, b" is missing: it is not on the card");
         return;
     }
@@ -24,12 +25,11 @@ fn missing(out: Stdout, name: &[u8]) {
     program_console::word(out, name);
 }
 
-// Says which of the two it is, and its bytes.
+// Says which of the two it is, and its bytes. The result of the functions for C tells that by a number.
 fn found(out: Stdout, r: u64, card: &[u8], desk: &[u8], name: &[u8]) {
     let start = result::certificate_place(r);
     let n = result::certificate_length(r);
-    let which = result::certificate_which(r);
-    match which {
+    match result::certificate_which(r) {
         1 => {
             program_console::word(out, b" is on the card:");
             program_console::spell(out, base::part(card, start, n));
@@ -45,18 +45,21 @@ fn found(out: Stdout, r: u64, card: &[u8], desk: &[u8], name: &[u8]) {
 }
 
 // Asks for the certificate in two bodies, the second of which has a name, and writes the answer.
-fn ask(out: Stdout, err: Stderr, reference: u8, card: &[u8], desk: &[u8], name: &[u8]) -> usize {
+fn ask(
+    out: Stdout,
+    err: Stderr,
+    reference: u8,
+    card: &[u8],
+    desk: &[u8],
+    name: &[u8],
+) -> Result<(), Fault> {
     let r = malquindo::malquindo_certificate(card, desk, reference);
-    if result::refusal(r) != 0 {
-        words::refusal(err, result::refusal(r));
-        return status::REFUSED;
-    }
-    let digits = [reference];
+    status::accepted(err, r)?;
     program_console::word(out, b"= certificate");
-    program_console::spell(out, &digits);
+    program_console::spell(out, &[reference]);
     found(out, r, card, desk, name);
     program_console::end(out);
-    status::GOOD
+    Ok(())
 }
 
 // Asks with the card in a file as the desk's copy.
@@ -67,48 +70,28 @@ fn ask_with(
     reference: u8,
     name: &[u8],
     image: &[u8],
-) -> usize {
+) -> Result<(), Fault> {
     let mut room = program_console::room();
-    let n = card::copy(rt, err, name, &mut room);
-    if n == files::FAILED {
-        return status::REFUSED;
-    }
-    ask(
-        out,
-        err,
-        reference,
-        body(image),
-        body(base::part(&room, 0, n)),
-        name,
-    )
+    let Ok(n) = card::copy(rt, err, name, &mut room) else {
+        return Err(Fault::Refused);
+    };
+    let desk = body(base::part(&room, 0, n));
+    ask(out, err, reference, body(image), desk, name)
 }
 
-// Asks without a copy, which is one without a certificate.
-fn ask_alone(out: Stdout, err: Stderr, reference: u8, image: &[u8]) -> usize {
-    let none = [0; 2];
-    ask(out, err, reference, body(image), &none, b"")
-}
-
-// A certificate's line, behind its first word.
-pub(crate) fn line(rt: &impl Files<File = File>, s: &[u8], image: &[u8], how: How) -> Ended {
-    let at = text::start(s, 0);
-    let number = hex::number(text::word(s, at), true);
-    let name = text::next(s, at);
-    if 255 < number {
-        return status::unread();
+// A certificate's line, behind its first word. Without a copy it asks with one that has no certificate.
+pub(crate) fn line(
+    rt: &impl Files<File = File>,
+    mut words: Words,
+    image: &[u8],
+    how: How,
+) -> Result<(), Fault> {
+    let reference = hex::byte(&mut words)?;
+    let Some(name) = words.next() else {
+        return ask(how.out, how.err, reference, body(image), &[0; 2], b"");
+    };
+    if words.next().is_some() {
+        return Err(Fault::Unread);
     }
-    if s.len() <= name {
-        return status::read(ask_alone(how.out, how.err, (number % 256) as u8, image));
-    }
-    if text::next(s, name) < s.len() {
-        return status::unread();
-    }
-    status::read(ask_with(
-        rt,
-        how.out,
-        how.err,
-        (number % 256) as u8,
-        text::word(s, name),
-        image,
-    ))
+    ask_with(rt, how.out, how.err, reference, name, image)
 }

@@ -34,10 +34,7 @@ pub(crate) fn tell(out: Stdout, before: usize, status: u64, session: &[u8]) {
         program_console::end(out);
         return;
     }
-    if before == 0 {
-        return;
-    }
-    if status != 0x9000 {
+    if 0 < before && status != 0x9000 {
         program_console::word(out, b"= chain dropped\n");
     }
 }

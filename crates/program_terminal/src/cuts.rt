@@ -1,9 +1,10 @@
 // A command that is cut: `cut K COMMAND`. The card is then what it is where the power goes behind the first K of the command's stores. K is in
 // decimal, the command in hexadecimal.
 use crate::lines::How;
-use crate::status::Ended;
-use crate::{hex, keep, status, text};
-use program_console::{result, words};
+use crate::status::Fault;
+use crate::text::Words;
+use crate::{hex, keep, status};
+use program_console::result;
 use std::io::Stdout;
 
 // Says how many stores were made, of how many that the command has.
@@ -13,7 +14,7 @@ fn tell(out: Stdout, stores: usize, all: usize) {
         return;
     }
     program_console::word(out, b"= stores made: ");
-    program_console::number(out, base::natural::min(stores, all) as u64);
+    program_console::number(out, stores.min(all) as u64);
     program_console::word(out, b" of ");
     program_console::number(out, all as u64);
     program_console::end(out);
@@ -27,34 +28,31 @@ fn send(
     kept: &mut [u8],
     session: &[u8],
     how: How,
-) -> usize {
+) -> Result<(), Fault> {
     let r = malquindo::malquindo_cut(image, session, command, stores);
-    if !keep::change(how.err, how.file, kept, image) {
-        return status::NO_CARD;
-    }
-    if result::refusal(r) != 0 {
-        words::refusal(how.err, result::refusal(r));
-        return status::REFUSED;
-    }
+    keep::change(how.err, how.file, kept, image)?;
+    status::accepted(how.err, r)?;
     tell(how.out, stores, result::stores(r));
-    status::GOOD
+    Ok(())
 }
 
 // A cut's line, behind its first word.
-pub(crate) fn line(s: &[u8], image: &mut [u8], kept: &mut [u8], session: &[u8], how: How) -> Ended {
-    let at = text::start(s, 0);
-    let stores = hex::decimal(text::word(s, at));
-    if !stores.good {
-        return status::unread();
-    }
+pub(crate) fn line(
+    mut words: Words,
+    image: &mut [u8],
+    kept: &mut [u8],
+    session: &[u8],
+    how: How,
+) -> Result<(), Fault> {
+    let stores = words
+        .next()
+        .and_then(|word| hex::number(word, hex::Written::Decimal));
     let mut bytes = program_console::buffer();
-    let r = hex::decode(base::part(s, text::next(s, at), s.len()), &mut bytes);
-    if !r.good {
-        return status::unread();
+    let command = hex::decode(words.rest, &mut bytes);
+    match (stores, command) {
+        (Some(stores), Some(command)) if !command.is_empty() => {
+            send(command, stores, image, kept, session, how)
+        }
+        _ => Err(Fault::Unread),
     }
-    if r.n == 0 {
-        return status::unread();
-    }
-    let command = base::part(&bytes, 0, r.n);
-    status::read(send(command, stores.value, image, kept, session, how))
 }

@@ -1,14 +1,10 @@
 // Files: by name, read until they end, and written at a place; and why one cannot be used.
 ghost use Rattle.std.specs.Prelude.{◌≤◌, length, IfOk};
 
-use crate::text;
 use std::fs::{File, OpenOptions};
 use std::io::{Cursor, Error, Read, Seek, SeekFrom, Stderr, Write};
 use std::rt::Files;
 use std::{fs, io};
-
-// More bytes than any room here has: the length of a card that is not there.
-pub(crate) const FAILED: usize = 1000000;
 
 // The longest name that the system takes, and its errors for one that is longer and for one with a byte 0.
 const LONGEST_NAME: usize = 4095;
@@ -22,19 +18,15 @@ fn path(name: &[u8]) -> io::Result<&str> {
     if LONGEST_NAME < name.len() {
         return Err(Error::from_raw_os_error(TOO_LONG));
     }
-    if text::find(name, 0, 0) < name.len() {
+    if name.contains(&0) {
         return Err(Error::from_raw_os_error(INVALID));
     }
-    match std::str::from_utf8(name) {
-        Ok(path) => Ok(path),
-        Err(_) => Err(Error::other("The name is not UTF-8")),
-    }
+    std::str::from_utf8(name).map_err(|_| Error::other("The name is not UTF-8"))
 }
 
 // Opens a file to be read.
 pub(crate) fn open_read(rt: &impl Files<File = File>, name: &[u8]) -> io::Result<File> {
-    let path = path(name)?;
-    fs::open(rt, path)
+    fs::open(rt, path(name)?)
 }
 
 // Opens a file to be read and written.
@@ -65,7 +57,7 @@ pub(crate) fn more(from: &mut impl Read, room: &mut [u8]) -> io::Result<usize>
     from.read(room)
 }
 
-// Reads until the file ends or out is full. Answers how many bytes that were.
+// Reads until the file ends or out is full. Answers how many bytes that were. The loop stays a `while`: a read says how far it goes on.
 pub(crate) fn whole(mut file: &File, out: &mut [u8]) -> io::Result<usize> {
     let mut have = 0;
     while have < out.len() {
@@ -80,7 +72,7 @@ pub(crate) fn whole(mut file: &File, out: &mut [u8]) -> io::Result<usize> {
 
 // Writes bytes at a place, and waits until the device has them.
 pub(crate) fn write_at(mut file: &File, at: usize, bytes: &[u8]) -> io::Result<()> {
-    if bytes.len() == 0 {
+    if bytes.is_empty() {
         return Ok(());
     }
     file.seek(SeekFrom::Start(at as u64))?;
@@ -90,14 +82,9 @@ pub(crate) fn write_at(mut file: &File, at: usize, bytes: &[u8]) -> io::Result<(
 
 // How much of the text of an error stands before the system's number of it.
 fn before_number(s: &[u8]) -> usize {
-    let mut i = 0;
-    while i < s.len() {
-        if text::starts(base::part(s, i, s.len()), b" (os error ") {
-            return i;
-        }
-        i += 1;
-    }
-    i
+    s.windows(11)
+        .position(|w| matches!(w, b" (os error "))
+        .unwrap_or(s.len())
 }
 
 // Writes a line to standard error: what failed, as the caller names it, a colon and the reason.

@@ -1,6 +1,7 @@
 // The input: read in pieces, cut into lines, each line answered as soon as it is whole. No part of it has a length that is bounded but a line.
 use crate::lines::How;
-use crate::{files, lines, status};
+use crate::status::Status;
+use crate::{files, lines};
 use std::fs::File;
 use std::io::{Error, Stderr, Stdin};
 use std::rt::Files;
@@ -8,72 +9,51 @@ use std::rt::Files;
 // No input brings as many pieces: each has a byte at least.
 const MOST_PIECES: u64 = 9223372036854775807;
 
-// How far the reading is: n bytes of a line, whether more of it was dropped, and the gravest that was met.
+// How far the reading is: how many bytes of a line were kept, none where it has more than there is room for, and the gravest end of a line so far.
+// They stand in a room beside it, and in no Vec: how long a line may be is a rule of the terminal, and no memory can be missing.
 #[derive(Clone, Copy)]
 struct Reading {
-    n: usize,
-    long: bool,
-    status: usize,
+    kept: Option<usize>,
+    status: Status,
 }
 
-fn state(n: usize, long: bool, status: usize) -> Reading {
-    Reading { n, long, status }
-}
+// The start of the input.
+const START: Reading = Reading {
+    kept: Some(0),
+    status: Status::Good,
+};
 
-// Answers a line.
+// Answers a line, at the end of which the reading is.
 fn answer(
     rt: &impl Files<File = File>,
     line: &[u8],
-    long: bool,
-    image: &mut [u8],
-    kept: &mut [u8],
-    session: &mut [u8],
-    how: How,
-) -> usize {
-    if long {
-        program_console::warn(
-            how.err,
-            b"! this line is longer than 65,536 bytes, and nothing is changed\n",
-        );
-        return status::REFUSED;
-    }
-    lines::answer(rt, line, image, kept, session, how)
-}
-
-// One character more of a line that does not end yet.
-fn add(line: &mut [u8], r: Reading, c: usize) -> Reading {
-    let at = r.n;
-    if line.len() <= at {
-        return state(at, true, r.status);
-    }
-    line[at] = (c % 256) as u8;
-    state(at + 1, r.long, r.status)
-}
-
-// One character more.
-fn next(
-    rt: &impl Files<File = File>,
-    c: usize,
-    line: &mut [u8],
     r: Reading,
     image: &mut [u8],
     kept: &mut [u8],
     session: &mut [u8],
     how: How,
 ) -> Reading {
-    if c != 10 {
-        return add(line, r, c);
+    let status = match r.kept {
+        Some(n) => lines::answer(rt, base::part(line, 0, n), image, kept, session, how),
+        None => {
+            program_console::warn(
+                how.err,
+                b"! this line is longer than 65,536 bytes, and nothing is changed\n",
+            );
+            Status::Refused
+        }
+    };
+    Reading {
+        status: r.status.max(status),
+        ..START
     }
-    let s = answer(
-        rt,
-        base::part(line, 0, r.n),
-        r.long,
-        image,
-        kept,
-        session,
-        how,
-    );
-    state(0, false, status::worse(r.status, s))
+}
+
+// One character more of a line that does not end yet, of which n bytes were kept. Answers how many are kept then.
+fn add(line: &mut [u8], kept: Option<usize>, c: u8) -> Option<usize> {
+    let n = kept?;
+    *line.get_mut(n)? = c;
+    Some(n + 1)
 }
 
 // Reads a piece of the input, and answers the lines that end in it.
@@ -88,47 +68,27 @@ fn piece(
     how: How,
 ) -> Reading {
     let mut r = so_far;
-    let mut i = 0;
-    while i < s.len() {
-        r = next(rt, base::byte(s, i), line, r, image, kept, session, how);
-        if r.status == status::NO_CARD {
+    for c in s {
+        if *c != b'\n' {
+            r.kept = add(line, r.kept, *c);
+            continue;
+        }
+        r = answer(rt, line, r, image, kept, session, how);
+        if r.status == Status::NoCard {
             return r;
         }
-        i += 1;
     }
     r
 }
 
-// The last line, which need not end.
-fn last(
-    rt: &impl Files<File = File>,
-    line: &[u8],
-    r: Reading,
-    image: &mut [u8],
-    kept: &mut [u8],
-    session: &mut [u8],
-    how: How,
-) -> usize {
-    let s = answer(
-        rt,
-        base::part(line, 0, r.n),
-        r.long,
-        image,
-        kept,
-        session,
-        how,
-    );
-    status::worse(r.status, s)
-}
-
 // Says that the input cannot be read.
-fn unreadable(err: Stderr, error: Error, so_far: usize) -> usize {
+fn unreadable(err: Stderr, error: Error, so_far: Status) -> Status {
     program_console::warn(err, b"! the input cannot be read: ");
     files::fail(err, b"standard input", error);
-    status::worse(so_far, status::REFUSED)
+    so_far.max(Status::Refused)
 }
 
-// Reads and answers lines until the input ends or the card cannot be kept.
+// Reads and answers lines until the input ends or the card cannot be kept. The last line need not end.
 fn pieces(
     rt: &impl Files<File = File>,
     mut input: Stdin,
@@ -138,31 +98,19 @@ fn pieces(
     kept: &mut [u8],
     session: &mut [u8],
     how: How,
-) -> usize {
-    let mut r = state(0, false, status::GOOD);
-    let mut left = MOST_PIECES;
-    while 0 < left {
+) -> Status {
+    let mut r = START;
+    for _ in 0..MOST_PIECES {
         let n = match files::more(&mut input, room) {
+            Ok(0) => return answer(rt, line, r, image, kept, session, how).status,
             Ok(n) => n,
             Err(error) => return unreadable(how.err, error, r.status),
         };
-        if n == 0 {
-            return last(rt, line, r, image, kept, session, how);
-        }
-        r = piece(
-            rt,
-            base::part(room, 0, n),
-            line,
-            r,
-            image,
-            kept,
-            session,
-            how,
-        );
-        if r.status == status::NO_CARD {
+        let s = base::part(room, 0, n);
+        r = piece(rt, s, line, r, image, kept, session, how);
+        if r.status == Status::NoCard {
             return r.status;
         }
-        left -= 1;
     }
     r.status
 }
@@ -174,10 +122,9 @@ pub(crate) fn answer_all(
     image: &mut [u8],
     kept: &mut [u8],
     how: How,
-) -> usize {
+) -> Status {
     let mut session = [0; 1054];
-    let rights = [0xFF; 60];
-    malquindo::malquindo_open(&rights, &mut session);
+    malquindo::malquindo_open(&[0xFF; 60], &mut session);
     let mut room = program_console::large_buffer();
     let mut line = program_console::large_buffer();
     pieces(

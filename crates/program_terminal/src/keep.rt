@@ -3,6 +3,7 @@
 ghost use Rattle.std.specs.Prelude.{◌≤◌};
 
 use crate::files;
+use crate::status::Fault;
 use std::fs::File;
 use std::io;
 use std::io::Stderr;
@@ -11,28 +12,11 @@ use store_records::little::{read16, read32};
 // The longest image.
 const LONGEST: usize = 262144;
 
-// The first place where two images differ; their length where they are the same.
-fn first(old: &[u8], new: &[u8]) -> usize {
-    let mut i = 0;
-    while i < new.len() {
-        if base::byte(old, i) != base::byte(new, i) {
-            return i;
-        }
-        i += 1;
-    }
-    i
-}
-
-// The place behind the last one where they differ; `from` where they are the same from there on.
-fn behind_last(old: &[u8], new: &[u8], from: usize) -> usize {
-    let mut end = new.len();
-    while from < end {
-        if base::byte(old, end - 1) != base::byte(new, end - 1) {
-            return end;
-        }
-        end -= 1;
-    }
-    from
+// The places from the first to behind the last where two images differ, which are as long as one another; none where they are the same.
+fn difference(old: &[u8], new: &[u8]) -> Option<(usize, usize)> {
+    let first = old.iter().zip(new).position(|(a, b)| a != b)?;
+    let last = old.iter().zip(new).rposition(|(a, b)| a != b)?;
+    Some((first, last + 1))
 }
 
 // How long the head of a body is: state and w, or a count.
@@ -45,7 +29,7 @@ fn head(kind: usize) -> usize
     2
 }
 
-// Where the head ends in the section that a place lies in.
+// Where the head ends in the section that a place lies in. The loop stays a `while`: a section says how long it is.
 fn head_end(image: &[u8], place: usize) -> usize {
     let mut at = 0;
     while at < LONGEST {
@@ -63,7 +47,7 @@ fn write(file: &File, image: &[u8], from: usize, end: usize) -> io::Result<()> {
     files::write_at(
         file,
         from,
-        base::part(image, from, base::natural::saturating_sub(end, from)),
+        base::part(image, from, end.saturating_sub(from)),
     )
 }
 
@@ -74,29 +58,27 @@ fn write_change(file: &File, image: &[u8], from: usize, end: usize) -> io::Resul
         return write(file, image, from, end);
     }
     write(file, image, behind_head, end)?;
-    write(file, image, from, base::natural::min(behind_head, end))
+    write(file, image, from, behind_head.min(end))
 }
 
-// Keeps what a command changed: `old` is what the file holds, and becomes `new`. Answers whether the file has it; without a file there is
-// nothing to keep.
-pub(crate) fn change(err: Stderr, file: Option<&File>, old: &mut [u8], new: &[u8]) -> bool {
-    let Some(file) = file else {
-        return true;
+// Keeps what a command changed: `old` is what the file holds, and becomes `new`. Without a file there is nothing to keep.
+pub(crate) fn change(
+    err: Stderr,
+    file: Option<&File>,
+    old: &mut [u8],
+    new: &[u8],
+) -> Result<(), Fault> {
+    let (Some(file), Some((from, end))) = (file, difference(old, new)) else {
+        return Ok(());
     };
-    let from = first(old, new);
-    let end = behind_last(old, new, from);
     if let Err(error) = write_change(file, new, from, end) {
         program_console::warn(
             err,
             b"! the change is not kept, so the command is not answered: ",
         );
         files::fail(err, b"the card's file cannot be written", error);
-        return false;
+        return Err(Fault::NoCard);
     }
-    base::put(
-        old,
-        from,
-        base::part(new, from, base::natural::saturating_sub(end, from)),
-    );
-    true
+    base::put(old, from, base::part(new, from, end.saturating_sub(from)));
+    Ok(())
 }

@@ -1,5 +1,6 @@
-// One line of the input and its answer. Each function here that answers a line says how it ended (status.rt).
-use crate::status::Ended;
+// One line of the input and its answer.
+use crate::status::{Fault, Status};
+use crate::text::Words;
 use crate::{
     certificates, chain, cuts, extensions, help, hex, keep, listing, moves, place, rights, stamps,
     status, text,
@@ -26,69 +27,41 @@ pub(crate) struct How<'a> {
     pub(crate) echo: bool,
 }
 
-// How much of a line stands before a comment.
-fn before_comment(s: &[u8]) -> usize {
-    text::find(s, 0, 35)
-}
-
 // A line that is neither hexadecimal nor begins with a word that is known.
-fn unreadable(err: Stderr, s: &[u8]) -> usize {
+fn unreadable(err: Stderr, s: &[u8]) {
     program_console::warn(err, b"! this line cannot be read, and nothing is changed: ");
     program_console::warn(err, s);
     program_console::warn(err, b"\n");
-    status::REFUSED
 }
 
 // Opens a session.
-fn open(out: Stdout, err: Stderr, certificates: &[u8], session: &mut [u8]) -> usize {
+fn open(out: Stdout, err: Stderr, certificates: &[u8], session: &mut [u8]) -> Result<(), Fault> {
     let r = malquindo::malquindo_open(certificates, session);
-    if r == 0 {
-        program_console::word(out, b"= session opened\n");
-        return status::GOOD;
-    }
-    words::refusal(err, result::refusal(r));
-    status::REFUSED
+    status::accepted(err, r)?;
+    program_console::word(out, b"= session opened\n");
+    Ok(())
 }
 
-// Opens a session with rights in words: three certificates that grant the same.
-fn open_words(out: Stdout, err: Stderr, s: &[u8], session: &mut [u8]) -> bool {
-    let mut granted = [0; 20];
-    if !rights::read(s, &mut granted) {
-        return false;
-    }
-    let mut chain = [0; 60];
-    base::put(&mut chain, 0, &granted);
-    base::put(&mut chain, 20, &granted);
-    base::put(&mut chain, 40, &granted);
-    open(out, err, &chain, session) == status::GOOD
-}
-
-// Opens a session with the certificates of a line, in hexadecimal or in words.
-fn open_line(out: Stdout, err: Stderr, s: &[u8], session: &mut [u8]) -> usize {
-    let certificates = base::part(s, 4, s.len());
+// Opens a session with the certificates of a line, in hexadecimal, or with rights in words: three certificates that grant the same.
+fn open_line(out: Stdout, err: Stderr, words: Words, session: &mut [u8]) -> Result<(), Fault> {
     let mut bytes = program_console::buffer();
-    let r = hex::decode(certificates, &mut bytes);
-    if r.good {
-        return open(out, err, base::part(&bytes, 0, r.n), session);
+    if let Some(certificates) = hex::decode(words.rest, &mut bytes) {
+        return open(out, err, certificates, session);
     }
-    if open_words(out, err, certificates, session) {
-        return status::GOOD;
-    }
-    unreadable(err, s)
+    let granted = rights::read(words).ok_or(Fault::Unread)?;
+    let chain = [granted; 3];
+    open(out, err, chain.as_flattened(), session)
 }
 
 // The answer to a command: the response in hexadecimal, then what its status means.
-fn response(out: Stdout, err: Stderr, r: u64, bytes: &[u8]) -> usize {
-    if result::refusal(r) != 0 {
-        words::refusal(err, result::refusal(r));
-        return status::REFUSED;
-    }
+fn response(out: Stdout, err: Stderr, r: u64, bytes: &[u8]) -> Result<(), Fault> {
+    status::accepted(err, r)?;
     program_console::word(out, b"<");
     program_console::spell(out, base::part(bytes, 0, result::length(r)));
     program_console::word(out, b" : ");
     words::status(out, result::status(r));
     program_console::end(out);
-    status::GOOD
+    Ok(())
 }
 
 // Writes a command out.
@@ -99,58 +72,50 @@ fn echo(out: Stdout, command: &[u8]) {
 }
 
 // Sends a command to the card, keeps what it changed, and then says what came back, and what became of a chain.
-fn send(command: &[u8], image: &mut [u8], kept: &mut [u8], session: &mut [u8], how: How) -> usize {
+fn send(
+    command: &[u8],
+    image: &mut [u8],
+    kept: &mut [u8],
+    session: &mut [u8],
+    how: How,
+) -> Result<(), Fault> {
     if how.echo {
         echo(how.out, command);
     }
     let before = chain::so_far(session);
     let mut bytes = program_console::buffer();
     let r = malquindo::malquindo_command(image, session, command, &mut bytes);
-    if !keep::change(how.err, how.file, kept, image) {
-        return status::NO_CARD;
-    }
-    let ended = response(how.out, how.err, r, &bytes);
+    keep::change(how.err, how.file, kept, image)?;
+    let answered = response(how.out, how.err, r, &bytes);
     chain::tell(how.out, before, result::status(r), session);
-    ended
+    answered
 }
 
 // A command's line.
-fn command(s: &[u8], image: &mut [u8], kept: &mut [u8], session: &mut [u8], how: How) -> usize {
+fn command(
+    s: &[u8],
+    image: &mut [u8],
+    kept: &mut [u8],
+    session: &mut [u8],
+    how: How,
+) -> Result<(), Fault> {
     let mut bytes = program_console::buffer();
-    let r = hex::decode(s, &mut bytes);
-    if !r.good {
-        return unreadable(how.err, s);
+    match hex::decode(s, &mut bytes) {
+        Some(command) => send(command, image, kept, session, how),
+        None => Err(Fault::Unread),
     }
-    send(base::part(&bytes, 0, r.n), image, kept, session, how)
-}
-
-// How a line ended that another file answers, if it could read it.
-fn ended(err: Stderr, s: &[u8], r: Ended) -> usize {
-    if r.good {
-        return r.status;
-    }
-    unreadable(err, s)
 }
 
 // A line that is one word and asks about the card, the session or this program. Answers whether it is one.
-fn told(out: Stdout, s: &[u8], image: &[u8], session: &[u8]) -> bool {
-    if text::is(s, b"show") {
-        listing::card(out, image);
-        return true;
+fn told(out: Stdout, word: &[u8], image: &[u8], session: &[u8]) -> bool {
+    match word {
+        b"show" => listing::card(out, image),
+        b"rights" => rights::tell(out, session),
+        b"session" => place::tell(out, session),
+        b"help" => help::all(out),
+        _ => return false,
     }
-    if text::is(s, b"rights") {
-        rights::tell(out, session);
-        return true;
-    }
-    if text::is(s, b"session") {
-        place::tell(out, session);
-        return true;
-    }
-    if text::is(s, b"help") {
-        help::all(out);
-        return true;
-    }
-    false
+    true
 }
 
 // A line that begins with its first word.
@@ -161,33 +126,31 @@ fn line(
     kept: &mut [u8],
     session: &mut [u8],
     how: How,
-) -> usize {
-    let word = text::word(s, 0);
-    if text::is(word, b"open") {
-        return open_line(how.out, how.err, s, session);
-    }
-    let rest = base::part(s, word.len(), s.len());
-    if text::is(word, b"cut") {
-        return ended(how.err, s, cuts::line(rest, image, kept, session, how));
-    }
-    if text::is(word, b"move") {
-        return ended(how.err, s, moves::line(rt, rest, image, how));
-    }
-    if text::is(word, b"certificates") {
-        return ended(how.err, s, extensions::line(rest, session, how));
-    }
-    if text::is(word, b"certificate") {
-        return ended(how.err, s, certificates::line(rt, rest, image, how));
-    }
-    if text::is(word, b"stamp") {
-        return ended(how.err, s, stamps::line(how.out, rest, image));
-    }
-    if s.len() <= text::next(s, 0) {
-        if told(how.out, word, image, session) {
-            return status::GOOD;
+) -> Result<(), Fault> {
+    let mut words = Words { rest: s };
+    let word = words.next().unwrap_or(s);
+    match word {
+        b"open" => open_line(how.out, how.err, words, session),
+        b"cut" => cuts::line(words, image, kept, session, how),
+        b"move" => moves::line(rt, words, image, how),
+        b"certificates" => extensions::line(words, session, how),
+        b"certificate" => certificates::line(rt, words, image, how),
+        b"stamp" => stamps::line(how.out, words, image),
+        _ => {
+            if words.next().is_none() && told(how.out, word, image, session) {
+                return Ok(());
+            }
+            command(s, image, kept, session, how)
         }
     }
-    command(s, image, kept, session, how)
+}
+
+// What stands of a line before a comment, from its first word on.
+fn content(s: &[u8]) -> &[u8] {
+    let end = s.iter().position(|c| *c == b'#').unwrap_or(s.len());
+    let s = base::part(s, 0, end);
+    let start = s.iter().position(|c| !text::is_space(c));
+    base::part(s, start.unwrap_or(end), end)
 }
 
 // Answers a line, which may have a comment, and spaces at both ends.
@@ -198,11 +161,18 @@ pub(crate) fn answer(
     kept: &mut [u8],
     session: &mut [u8],
     how: How,
-) -> usize {
-    let t = base::part(s, 0, before_comment(s));
-    let words = base::part(t, text::start(t, 0), t.len());
-    if words.len() == 0 {
-        return status::GOOD;
+) -> Status {
+    let s = content(s);
+    if s.is_empty() {
+        return Status::Good;
     }
-    line(rt, words, image, kept, session, how)
+    match line(rt, s, image, kept, session, how) {
+        Ok(()) => Status::Good,
+        Err(Fault::Unread) => {
+            unreadable(how.err, s);
+            Status::Refused
+        }
+        Err(Fault::Refused) => Status::Refused,
+        Err(Fault::NoCard) => Status::NoCard,
+    }
 }

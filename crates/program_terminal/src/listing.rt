@@ -4,23 +4,21 @@ use store_kinds::rules::{RULES, Rule};
 use store_kinds::{biometrics, rules};
 use store_records::body;
 
-fn name(out: Stdout, kind: usize) {
+// The name of a record file.
+fn name(kind: usize) -> &'static str {
     match kind {
-        0x0101 => program_console::word(out, b"  EntryRecords           "),
-        0x0102 => program_console::word(out, b"  ExitRecords            "),
-        0x011A => program_console::word(out, b"  travel certificates    "),
-        0x0203 => program_console::word(out, b"  VisaRecords            "),
-        0x021A => program_console::word(out, b"  visa certificates      "),
-        _ => program_console::word(out, b"  biometrics certificates"),
+        0x0101 => "  EntryRecords           ",
+        0x0102 => "  ExitRecords            ",
+        0x011A => "  travel certificates    ",
+        0x0203 => "  VisaRecords            ",
+        0x021A => "  visa certificates      ",
+        _ => "  biometrics certificates",
     }
 }
 
 // The records of a body, a line each.
 fn records(out: Stdout, b: &[u8]) {
-    let n = body::count(b);
-    let mut i = 0;
-    while i < n {
-        i += 1;
+    for i in 1..=body::count(b) {
         program_console::word(out, b"   ");
         program_console::field(out, i);
         program_console::word(out, b":");
@@ -29,8 +27,8 @@ fn records(out: Stdout, b: &[u8]) {
     }
 }
 
-fn record_file(out: Stdout, r: Rule, b: &[u8]) {
-    name(out, r.kind);
+fn record_file(out: Stdout, r: &Rule, b: &[u8]) {
+    program_console::word(out, name(r.kind).as_bytes());
     program_console::word(out, b" records");
     program_console::field(out, body::count(b));
     program_console::word(out, b" of");
@@ -43,30 +41,25 @@ fn record_file(out: Stdout, r: Rule, b: &[u8]) {
 
 // The bytes of a body that no record uses.
 fn free(b: &[u8]) -> usize {
-    base::natural::saturating_sub(b.len(), body::used(b))
+    b.len().saturating_sub(body::used(b))
 }
 
 // The record files of an application.
 fn record_files(out: Stdout, card: &[u8], application: usize) {
-    let rules = RULES;
-    let mut i = 0;
-    while i < rules.len() {
-        let r = rules[i];
-        if r.application == application {
-            record_file(out, r, store_image::body(card, r.kind));
-        }
-        i += 1;
+    for r in RULES.iter().filter(|r| r.application == application) {
+        record_file(out, r, store_image::body(card, r.kind));
     }
 }
 
-fn biometrics_file(out: Stdout, n: usize, b: &[u8]) {
+fn biometrics_file(out: Stdout, n: u8, b: &[u8]) {
     program_console::word(out, b"  Biometrics");
-    program_console::field(out, n);
-    if biometrics::state(b) == 1 {
-        program_console::word(out, b" Activated, bytes written");
+    program_console::field(out, usize::from(n));
+    let state = if biometrics::state(b) == 1 {
+        " Activated, bytes written"
     } else {
-        program_console::word(out, b" Deactivated, bytes written");
-    }
+        " Deactivated, bytes written"
+    };
+    program_console::word(out, state.as_bytes());
     program_console::field(out, biometrics::written(b));
     program_console::word(out, b" of");
     program_console::field(out, biometrics::room(b));
@@ -76,10 +69,8 @@ fn biometrics_file(out: Stdout, n: usize, b: &[u8]) {
 }
 
 fn biometrics_files(out: Stdout, card: &[u8]) {
-    let mut n = 0;
-    while n < 64 {
-        n += 1;
-        let kind = rules::biometrics_kind(n as u8);
+    for n in 1..=64 {
+        let kind = rules::biometrics_kind(n);
         if store_image::has(card, kind) {
             biometrics_file(out, n, store_image::body(card, kind));
         }

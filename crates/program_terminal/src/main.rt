@@ -22,9 +22,8 @@ mod stamps;
 mod status;
 mod text;
 
-ghost use Rattle.std.specs.Prelude.{◌≤◌, length};
-
 use lines::{How, Streams};
+use status::Status;
 use std::env::FillError;
 use std::fs::File;
 use std::io::{IsTerminal, Stdin, Stdout};
@@ -33,10 +32,7 @@ use std::rt::{Env, Files};
 
 // Whether what is typed stands on the terminal already.
 fn is_typed(input: Stdin, out: Stdout) -> bool {
-    if !input.is_terminal() {
-        return false;
-    }
-    out.is_terminal()
+    input.is_terminal() && out.is_terminal()
 }
 
 // Answers the lines on a card of n bytes, with room for its image and for what its file holds. Answers how that ended.
@@ -47,12 +43,9 @@ fn run_card(
     kept: &mut [u8],
     file: Option<&File>,
     n: usize,
-) -> usize {
-    if image.len() < n {
-        return status::NO_CARD;
-    }
-    if kept.len() < n {
-        return status::NO_CARD;
+) -> Status {
+    if image.len() < n || kept.len() < n {
+        return Status::NoCard;
     }
     base::put(kept, 0, base::part(image, 0, n));
     let how = How {
@@ -71,13 +64,15 @@ fn run_argument(
     argument: &[u8],
     image: &mut [u8],
     kept: &mut [u8],
-) -> usize {
-    if text::is(argument, b"--help") {
+) -> Status {
+    if matches!(argument, b"--help") {
         help::usage(streams.out);
-        return status::GOOD;
+        return Status::Good;
     }
-    let c = card::load(rt, streams.err, argument, image);
-    run_card(rt, streams, image, kept, c.file.as_ref(), c.len)
+    match card::load(rt, streams.err, argument, image) {
+        Ok((file, n)) => run_card(rt, streams, image, kept, Some(&file), n),
+        Err(_) => Status::NoCard,
+    }
 }
 
 // Whether there is an argument i; the first is the program's name.
@@ -96,14 +91,10 @@ fn argument_count(rt: &impl Env) -> usize {
     usize::MAX
 }
 
-// Puts an argument at the start of `out`. Answers its length, 0 where it is missing or longer than that.
-fn argument(rt: &impl Env, i: usize, out: &mut [u8]) -> usize
-    ensures { result ≤ length out.new }
-{
-    match rt.arg(i, out) {
-        Ok(n) => n,
-        Err(_) => 0,
-    }
+// An argument, put at the start of `out`; none where it is missing or longer than that.
+fn argument<'a>(rt: &impl Env, i: usize, out: &'a mut [u8]) -> Option<&'a [u8]> {
+    let n = rt.arg(i, out).ok()?;
+    out.get(..n)
 }
 
 // Runs with the argument at `first`, where there is one.
@@ -113,29 +104,28 @@ fn run(
     first: usize,
     image: &mut [u8],
     kept: &mut [u8],
-) -> usize {
+) -> Status {
     let count = argument_count(rt);
     if count <= first {
-        let c = card::example(image);
-        return run_card(rt, streams, image, kept, c.file.as_ref(), c.len);
+        let n = card::example(image);
+        return run_card(rt, streams, image, kept, None, n);
     }
     if first < count - 1 {
         program_console::warn(
             streams.err,
             b"! one card at a time: there is more than one argument\n",
         );
-        return status::NO_CARD;
+        return Status::NoCard;
     }
     let mut name = program_console::buffer();
-    let n = argument(rt, first, &mut name);
-    run_argument(rt, streams, &name[..n], image, kept)
+    let name = argument(rt, first, &mut name).unwrap_or(&[]);
+    run_argument(rt, streams, name, image, kept)
 }
 
 // Whether the first argument asks for the exit status.
 fn tells_status(rt: &impl Env) -> bool {
     let mut first = program_console::buffer();
-    let n = argument(rt, 1, &mut first);
-    text::is(&first[..n], b"--status")
+    matches!(argument(rt, 1, &mut first), Some(b"--status"))
 }
 
 // Runs. Answers the exit status: how it ended where that is asked, and else 0.
@@ -146,7 +136,7 @@ fn start(
     kept: &mut [u8],
 ) -> ExitCode {
     if tells_status(rt) {
-        return ExitCode::from((run(rt, streams, 2, image, kept) % 3) as u8);
+        return ExitCode::from(run(rt, streams, 2, image, kept) as u8);
     }
     run(rt, streams, 1, image, kept);
     ExitCode::SUCCESS

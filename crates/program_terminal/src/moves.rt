@@ -1,8 +1,9 @@
 // A move of the card to a new file: `move FILE KIND LENGTH KIND LENGTH ...`, each kind in hexadecimal, the length of its room in decimal.
 use crate::lines::How;
-use crate::status::Ended;
-use crate::{files, hex, listing, status, text};
-use program_console::{result, words};
+use crate::status::Fault;
+use crate::text::Words;
+use crate::{files, hex, listing, status};
+use program_console::result;
 use std::fs::File;
 use std::io;
 use std::io::{Error, Stderr, Stdout, Write};
@@ -11,47 +12,27 @@ use std::rt::Files;
 // More rows than a card has kinds.
 const MOST: usize = 100;
 
-// Stores a row of the list.
-fn store(list: &mut [u8], n: usize, kind: usize, len: usize) -> bool {
-    let row = [
-        (len % 256) as u8,
-        (len / 256 % 256) as u8,
-        (len / 65536 % 256) as u8,
-        (len / 16777216 % 256) as u8,
-        (kind % 256) as u8,
-        (kind / 256 % 256) as u8,
-    ];
-    base::put(list, n % MOST * 6, &row)
+// A row of the list, from a kind and a length in digits; none where one of them is none.
+fn row(kind: &[u8], length: &[u8]) -> Option<[u8; 6]> {
+    let kind = u16::try_from(hex::number(kind, hex::Written::Hexadecimal)?)
+        .ok()?
+        .to_le_bytes();
+    let length = u32::try_from(hex::number(length, hex::Written::Decimal)?)
+        .ok()?
+        .to_le_bytes();
+    Some([length[0], length[1], length[2], length[3], kind[0], kind[1]])
 }
 
-// Reads row n, a kind and a length, from `at` on. Answers whether it could be read.
-fn row(s: &[u8], at: usize, list: &mut [u8], n: usize) -> bool {
-    let kind = hex::number(text::word(s, at), true);
-    let len = hex::number(text::word(s, text::next(s, at)), false);
-    if 65535 < kind {
-        return false;
+// Reads rows into `list`, until no word is left. Gives the rows that were read; none where one cannot be read or there are too many.
+fn rows<'a>(mut words: Words, list: &'a mut [u8]) -> Option<&'a [u8]> {
+    for n in 0..MOST {
+        let Some(kind) = words.next() else {
+            return list.get(..n * 6);
+        };
+        let row = row(kind, words.next()?)?;
+        base::put(list, n * 6, &row);
     }
-    if hex::NONE <= len {
-        return false;
-    }
-    store(list, n, kind, len)
-}
-
-// Reads rows from `from` on. Answers how many, or MOST where one cannot be read or there are too many.
-fn rows(s: &[u8], from: usize, list: &mut [u8]) -> usize {
-    let mut at = text::start(s, from);
-    let mut n = 0;
-    while n < MOST {
-        if s.len() <= at {
-            return n;
-        }
-        if !row(s, at, list, n) {
-            return MOST;
-        }
-        at = text::next(s, text::next(s, at));
-        n += 1;
-    }
-    MOST
+    None
 }
 
 // Writes the new card's image whole, and waits until the device has it.
@@ -61,10 +42,10 @@ fn write(mut file: &File, bytes: &[u8]) -> io::Result<()> {
 }
 
 // Says that a new card's file is not there, and why.
-fn not_made(err: Stderr, name: &[u8], error: Error) -> usize {
+fn not_made(err: Stderr, name: &[u8], error: Error) -> Fault {
     program_console::warn(err, b"! the new card's file cannot be made: ");
     files::fail(err, name, error);
-    status::REFUSED
+    Fault::Refused
 }
 
 // Makes a file of the new card's image, and says what it holds. A file that is not whole is removed.
@@ -74,21 +55,21 @@ fn save(
     err: Stderr,
     name: &[u8],
     bytes: &[u8],
-) -> usize {
+) -> Result<(), Fault> {
     let file = match files::create(rt, name) {
         Ok(file) => file,
-        Err(error) => return not_made(err, name, error),
+        Err(error) => return Err(not_made(err, name, error)),
     };
     let written = write(&file, bytes);
     drop(file);
     if let Err(error) = written {
-        not_made(err, name, error);
+        let fault = not_made(err, name, error);
         let _ = files::remove(rt, name);
-        return status::REFUSED;
+        return Err(fault);
     }
     program_console::word(out, b"= moved to a new file\n");
     listing::card(out, bytes);
-    status::GOOD
+    Ok(())
 }
 
 // Moves the card to a new file.
@@ -99,39 +80,27 @@ fn move_to(
     name: &[u8],
     list: &[u8],
     image: &[u8],
-) -> usize {
+) -> Result<(), Fault> {
     let mut target = program_console::room();
     let r = malquindo::malquindo_move(image, list, &mut target);
-    if result::refusal(r) != 0 {
-        words::refusal(err, result::refusal(r));
-        return status::REFUSED;
-    }
-    save(
-        rt,
-        out,
-        err,
-        name,
-        base::part(&target, 0, result::moved_length(r)),
-    )
+    status::accepted(err, r)?;
+    let moved = base::part(&target, 0, result::moved_length(r));
+    save(rt, out, err, name, moved)
 }
 
 // A move's line, behind its first word.
-pub(crate) fn line(rt: &impl Files<File = File>, s: &[u8], image: &[u8], how: How) -> Ended {
-    let at = text::start(s, 0);
-    let mut list = [0; 600];
-    let n = rows(s, text::next(s, at), &mut list);
-    if MOST <= n {
-        return status::unread();
-    }
-    if s.len() <= at {
-        return status::unread();
-    }
-    status::read(move_to(
-        rt,
-        how.out,
-        how.err,
-        text::word(s, at),
-        base::part(&list, 0, n * 6),
-        image,
-    ))
+pub(crate) fn line(
+    rt: &impl Files<File = File>,
+    mut words: Words,
+    image: &[u8],
+    how: How,
+) -> Result<(), Fault> {
+    let Some(name) = words.next() else {
+        return Err(Fault::Unread);
+    };
+    let mut list = [0; 6 * MOST];
+    let Some(list) = rows(words, &mut list) else {
+        return Err(Fault::Unread);
+    };
+    move_to(rt, how.out, how.err, name, list, image)
 }

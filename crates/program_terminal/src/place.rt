@@ -3,34 +3,37 @@ use crate::chain;
 use std::io::Stdout;
 use store_records::little::read16;
 
-fn application(out: Stdout, number: usize) {
+// The application with a number.
+fn application(number: usize) -> &'static str {
     match number {
-        0 => program_console::word(out, b"= session: master file"),
-        1 => program_console::word(out, b"= session: travel"),
-        2 => program_console::word(out, b"= session: visa"),
-        _ => program_console::word(out, b"= session: biometrics"),
+        0 => "master file",
+        1 => "travel",
+        2 => "visa",
+        _ => "biometrics",
     }
 }
 
-// A file by its id. No id has two meanings within an application, and only that of certificates is in more than one.
+// Writes a file by its id. No id has two meanings within an application, and only that of certificates is in more than one.
 fn file(out: Stdout, id: usize) {
-    match id {
-        0x0101 => program_console::word(out, b", EntryRecords"),
-        0x0102 => program_console::word(out, b", ExitRecords"),
-        0x0103 => program_console::word(out, b", VisaRecords"),
-        0x011A => program_console::word(out, b", certificates"),
-        0x2F00 => program_console::word(out, b", EF.DIR"),
-        0x2F01 => program_console::word(out, b", EF.ATR/INFO"),
+    let name = match id {
+        0x0101 => ", EntryRecords",
+        0x0102 => ", ExitRecords",
+        0x0103 => ", VisaRecords",
+        0x011A => ", certificates",
+        0x2F00 => ", EF.DIR",
+        0x2F01 => ", EF.ATR/INFO",
         _ => {
             program_console::word(out, b", Biometrics");
-            program_console::field(out, id % 256);
+            return program_console::field(out, id % 256);
         }
-    }
+    };
+    program_console::word(out, name.as_bytes());
 }
 
 // Writes a line with the application, the current file, the current record and the open chain.
 pub(crate) fn tell(out: Stdout, session: &[u8]) {
-    application(out, base::byte(session, 20));
+    program_console::word(out, b"= session: ");
+    program_console::word(out, application(base::byte(session, 20)).as_bytes());
     let place = base::byte(session, 21);
     if place == 0 {
         program_console::word(out, b", no file");

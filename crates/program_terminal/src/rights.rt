@@ -1,41 +1,62 @@
 // The rights of a session in words: what a certificate grants. A word is the name of an application, alone or with what may be done there,
 // as in `travel=read,append`; or that of a biometrics file, as in `biometrics5=write`. To name an application sets its flag, by which it
 // may be selected. What is told can be given to `open` again.
-use crate::{hex, text};
+ghost use Rattle.std.specs.Prelude.{◌<◌};
+
+use crate::hex;
+use crate::text::Words;
 use std::io::Stdout;
-
-// What a name has rights for: nothing; records and certificates; certificates alone; a biometrics file.
-const NOTHING: usize = 0;
-
-const RECORDS: usize = 1;
-
-const CERTIFICATES: usize = 2;
-
-const FILE: usize = 3;
 
 // More words than there are names.
 const MOST: usize = 100;
 
-// Where the rights of a name stand in a certificate: the byte, the value of its lowest bit there, and the application's flag.
-#[derive(Clone, Copy)]
-struct Named {
-    kind: usize,
-    at: usize,
-    unit: usize,
-    flag: usize,
+// What a name has rights for.
+#[derive(Clone, Copy, PartialEq, Eq)]
+enum Kind {
+    // records and certificates
+    Records,
+    // certificates alone
+    Certificates,
+    // a biometrics file
+    File,
 }
 
-fn standing(kind: usize, at: usize, unit: usize, flag: usize) -> Named {
-    Named {
-        kind,
-        at,
-        unit,
-        flag,
+// The rights to records and certificates, each with its bit.
+const RECORD_RIGHTS: [(&str, u8); 4] = [
+    ("read", 1),
+    ("append", 2),
+    ("read-certificates", 4),
+    ("append-certificates", 8),
+];
+
+// The rights to certificates alone.
+const CERTIFICATE_RIGHTS: [(&str, u8); 2] = [("read-certificates", 1), ("append-certificates", 2)];
+
+// The rights to a biometrics file: `write` counts while it is Deactivated, `read` while it is Activated.
+const FILE_RIGHTS: [(&str, u8); 2] = [("read", 1), ("write", 2)];
+
+// The rights that a kind has.
+fn rights_of(kind: Kind) -> &'static [(&'static str, u8)] {
+    match kind {
+        Kind::Records => &RECORD_RIGHTS,
+        Kind::Certificates => &CERTIFICATE_RIGHTS,
+        Kind::File => &FILE_RIGHTS,
     }
 }
 
-// The value of the lower of the two bits that Biometrics n + 1 has.
-fn unit(n: usize) -> usize {
+// Where the rights of a name stand in a certificate: the byte, the value of its lowest bit there, and the application's flag.
+#[derive(Clone, Copy)]
+struct Named {
+    kind: Kind,
+    at: usize,
+    unit: u8,
+    flag: u8,
+}
+
+// The value of the lower of the two bits that Biometrics n + 1 has in its byte.
+fn unit(n: usize) -> u8
+    ensures { 0 < result }
+{
     match n % 4 {
         0 => 64,
         1 => 16,
@@ -45,278 +66,157 @@ fn unit(n: usize) -> usize {
 }
 
 // Biometrics n.
-fn biometrics_file(n: usize) -> Named {
-    if n < 1 {
-        return standing(NOTHING, 0, 0, 0);
+fn biometrics_file(n: usize) -> Option<Named> {
+    if n < 1 || 64 < n {
+        return None;
     }
-    if 64 < n {
-        return standing(NOTHING, 0, 0, 0);
-    }
-    standing(FILE, 4 + (n - 1) / 4, unit(n - 1), 4)
+    Some(Named {
+        kind: Kind::File,
+        at: 4 + (n - 1) / 4,
+        unit: unit(n - 1),
+        flag: 4,
+    })
 }
 
-// What a name means.
-fn meant(name: &[u8]) -> Named {
-    if text::is(name, b"travel") {
-        return standing(RECORDS, 1, 1, 1);
-    }
-    if text::is(name, b"visa") {
-        return standing(RECORDS, 2, 1, 2);
-    }
-    if text::is(name, b"biometrics") {
-        return standing(CERTIFICATES, 3, 1, 4);
-    }
-    if text::starts(name, b"biometrics") {
-        return biometrics_file(hex::number(base::part(name, 10, name.len()), false));
-    }
-    standing(NOTHING, 0, 0, 0)
+// An application by its name; none where there is no such.
+fn application(name: &[u8]) -> Option<Named> {
+    let (kind, at, flag) = match name {
+        b"travel" => (Kind::Records, 1, 1),
+        b"visa" => (Kind::Records, 2, 2),
+        b"biometrics" => (Kind::Certificates, 3, 4),
+        _ => return None,
+    };
+    Some(Named {
+        kind,
+        at,
+        unit: 1,
+        flag,
+    })
 }
 
-// The bits of a right to records or certificates; 0 where there is no such.
-fn record_bits(right: &[u8]) -> usize {
-    if text::is(right, b"read") {
-        return 1;
+// What a name means; none where it means nothing.
+fn meant(name: &[u8]) -> Option<Named> {
+    if let Some(named) = application(name) {
+        return Some(named);
     }
-    if text::is(right, b"append") {
-        return 2;
-    }
-    if text::is(right, b"read-certificates") {
-        return 4;
-    }
-    if text::is(right, b"append-certificates") {
-        return 8;
-    }
-    if text::is(right, b"all") {
-        return 15;
-    }
-    0
+    biometrics_file(hex::number(name.strip_prefix(b"biometrics")?, hex::Written::Decimal)?)
 }
 
-// The bits of a right to a biometrics file: `write` counts while it is Deactivated, `read` while it is Activated.
-fn file_bits(right: &[u8]) -> usize {
-    if text::is(right, b"read") {
-        return 1;
+// The bits of a right that a kind has, or of all of them; none where it has no such.
+fn bits(kind: Kind, right: &[u8]) -> Option<u8> {
+    let rights = rights_of(kind);
+    if matches!(right, b"all") {
+        return Some(rights.iter().fold(0, |all, known| all | known.1));
     }
-    if text::is(right, b"write") {
-        return 2;
-    }
-    if text::is(right, b"all") {
-        return 3;
-    }
-    0
-}
-
-// The bits of a right, as multiples of the unit; 0 where a name has no such right.
-fn bits(kind: usize, right: &[u8]) -> usize {
-    if kind == FILE {
-        return file_bits(right);
-    }
-    if kind == CERTIFICATES {
-        return record_bits(right) / 4;
-    }
-    record_bits(right)
-}
-
-// Bits as multiples of a unit.
-fn scaled(b: usize, unit: usize) -> usize {
-    match unit {
-        64 => b % 4 * 64,
-        16 => b % 4 * 16,
-        4 => b % 4 * 4,
-        _ => b,
-    }
+    rights
+        .iter()
+        .find(|known| known.0.as_bytes() == right)
+        .map(|known| known.1)
 }
 
 // Sets bits of a byte.
-fn grant(rights: &mut [u8], at: usize, value: usize) {
-    let b = [(base::byte(rights, at) % 256) as u8 | (value % 256) as u8];
-    base::put(rights, at, &b);
+fn grant(rights: &mut [u8; 20], at: usize, bits: u8) {
+    if let Some(byte) = rights.get_mut(at) {
+        *byte |= bits;
+    }
 }
 
-// Grants what a list of rights names, with a comma between two. Answers whether it could be read.
-fn grant_list(s: &[u8], name: Named, rights: &mut [u8]) -> bool {
-    let mut at = 0;
-    while at < s.len() {
-        let end = text::find(s, at, 44);
-        let b = bits(name.kind, base::part(s, at, end - at));
-        if b == 0 {
-            return false;
-        }
-        grant(rights, name.at, scaled(b, name.unit));
-        if s.len() <= end {
-            return true;
-        }
-        at = end + 1;
+// Grants what a list of rights names, with a comma between two. None where it cannot be read.
+fn grant_list(s: &[u8], name: Named, rights: &mut [u8; 20]) -> Option<()> {
+    for right in s.split(|c| *c == b',') {
+        let bits = bits(name.kind, right)?;
+        grant(rights, name.at, bits.wrapping_mul(name.unit));
     }
-    false
+    Some(())
 }
 
-// Grants what a name and its list say. Answers whether they could be read.
-fn grant_named(s: &[u8], rights: &mut [u8]) -> bool {
-    let end = text::find(s, 0, 61);
-    let name = meant(base::part(s, 0, end));
-    if name.kind == NOTHING {
-        return false;
+// Grants what a word says: a name, alone or with its list behind `=`. None where it cannot be read.
+fn grant_word(s: &[u8], rights: &mut [u8; 20]) -> Option<()> {
+    match s {
+        b"all" => {
+            *rights = [0xFF; 20];
+            return Some(());
+        }
+        b"none" => return Some(()),
+        _ => {}
     }
+    let end = s.iter().position(|c| *c == b'=');
+    let name = meant(base::part(s, 0, end.unwrap_or(s.len())))?;
     grant(rights, 0, name.flag);
-    if s.len() <= end {
-        return name.kind != FILE;
-    }
-    grant_list(base::part(s, end + 1, s.len()), name, rights)
-}
-
-// Grants what a word says. Answers whether it could be read.
-fn grant_word(s: &[u8], rights: &mut [u8]) -> bool {
-    if text::is(s, b"all") {
-        return base::put(rights, 0, &[0xFF; 20]);
-    }
-    if text::is(s, b"none") {
-        return true;
-    }
-    grant_named(s, rights)
-}
-
-// Grants what the words of a line say, in a certificate of 20 bytes. Answers whether all of them could be read.
-pub(crate) fn read(s: &[u8], rights: &mut [u8]) -> bool {
-    let mut at = text::start(s, 0);
-    let mut n = 0;
-    while n < MOST {
-        if s.len() <= at {
-            return true;
-        }
-        if !grant_word(text::word(s, at), rights) {
-            return false;
-        }
-        at = text::next(s, at);
-        n += 1;
-    }
-    false
-}
-
-// The word of a bit that is a right to records or certificates.
-fn record_word(out: Stdout, bit: usize) {
-    match bit {
-        0 => program_console::word(out, b"read"),
-        1 => program_console::word(out, b"append"),
-        2 => program_console::word(out, b"read-certificates"),
-        _ => program_console::word(out, b"append-certificates"),
+    match end {
+        Some(end) => grant_list(&s[end + 1..], name, rights),
+        None if name.kind == Kind::File => None,
+        None => Some(()),
     }
 }
 
-// The word of a bit.
-fn bit_word(out: Stdout, kind: usize, bit: usize) {
-    if kind == RECORDS {
-        record_word(out, bit);
-        return;
+// A certificate that grants what the words of a line say; none where one cannot be read or there are too many.
+pub(crate) fn read(mut words: Words) -> Option<[u8; 20]> {
+    let mut rights = [0; 20];
+    for _ in 0..MOST {
+        let Some(word) = words.next() else {
+            return Some(rights);
+        };
+        grant_word(word, &mut rights)?;
     }
-    if kind == CERTIFICATES {
-        record_word(out, bit % 2 + 2);
-        return;
-    }
-    if bit == 0 {
-        program_console::word(out, b"read");
-        return;
-    }
-    program_console::word(out, b"write");
+    None
 }
 
-// Writes a right behind its sign: `=` before the first, a comma before any other.
-fn tell_right(out: Stdout, kind: usize, bit: usize, first: bool) {
-    if first {
-        program_console::word(out, b"=");
-    } else {
-        program_console::word(out, b",");
-    }
-    bit_word(out, kind, bit);
-}
-
-// Writes the rights that the bits of a number are.
-fn tell_bits(out: Stdout, kind: usize, value: usize) {
-    let mut left = value;
-    let mut first = true;
-    let mut bit = 0;
-    while bit < 4 {
-        if left % 2 == 1 {
-            tell_right(out, kind, bit, first);
-            first = false;
-        }
-        left = left / 2;
-        bit += 1;
+// Writes the rights that bits are: `=` before the first, a comma before any other.
+fn tell_bits(out: Stdout, kind: Kind, bits: u8) {
+    let rights = rights_of(kind).iter().filter(|known| bits & known.1 != 0);
+    for (i, known) in rights.enumerate() {
+        program_console::word(out, if i == 0 { b"=" } else { b"," });
+        program_console::word(out, known.0.as_bytes());
     }
 }
 
-// Writes what a session may do in an application whose flag is the lowest bit of a number.
-fn tell_application(out: Stdout, name: &[u8], kind: usize, flag: usize, value: usize) {
-    if flag % 2 == 1 {
-        program_console::word(out, name);
-        tell_bits(out, kind, value);
-    }
+// Writes what a session may do in an application.
+fn tell_application(out: Stdout, name: &[u8], kind: Kind, bits: u8) {
+    program_console::word(out, name);
+    tell_bits(out, kind, bits);
 }
 
-// The two bits of Biometrics n + 1 in its byte.
-fn share(byte: usize, n: usize) -> usize {
-    match n % 4 {
-        0 => byte / 64 % 4,
-        1 => byte / 16 % 4,
-        2 => byte / 4 % 4,
-        _ => byte % 4,
-    }
-}
-
-// Writes what a session may do with Biometrics n + 1.
-fn tell_file(out: Stdout, session: &[u8], n: usize) {
-    let value = share(base::byte(session, 4 + n % 64 / 4), n);
-    if value != 0 {
-        program_console::word(out, b" biometrics");
-        program_console::number(out, (n % 64 + 1) as u64);
-        tell_bits(out, FILE, value);
-    }
-}
-
-// Writes what a session may do in the biometrics application. The name alone is left out where a file's name says it, too.
-fn tell_biometrics(out: Stdout, session: &[u8], flag: usize) {
-    let value = base::byte(session, 3);
-    if value == 0 {
-        if !text::starts(base::part(session, 4, 16), &[0; 16]) {
-            return;
+// Writes what a session may do with the biometrics files, whose bits are these bytes.
+fn tell_files(out: Stdout, bytes: &[u8]) {
+    for n in 0..64 {
+        let bits = base::byte(bytes, n / 4) as u8 / unit(n) % 4;
+        if bits != 0 {
+            program_console::word(out, b" biometrics");
+            program_console::number(out, n as u64 + 1);
+            tell_bits(out, Kind::File, bits);
         }
     }
-    tell_application(out, b" biometrics", CERTIFICATES, flag, value);
 }
 
-// Writes what a session may do with biometrics files.
-fn tell_files(out: Stdout, session: &[u8]) {
-    let mut n = 0;
-    while n < 64 {
-        tell_file(out, session, n);
-        n += 1;
-    }
-}
+// Every right.
+const ALL: [u8; 20] = [
+    7, 15, 15, 3, 255, 255, 255, 255, 255, 255, 255, 255, 255, 255, 255, 255, 255, 255, 255, 255,
+];
 
-// Whether a session has every right.
-fn has_all(session: &[u8]) -> bool {
-    let all = [
-        7u8, 15, 15, 3, 255, 255, 255, 255, 255, 255, 255, 255, 255, 255, 255, 255, 255, 255, 255,
-        255,
-    ];
-    text::starts(session, &all)
-}
-
-// Writes the rights of a session, which are in cleared form.
+// Writes the rights of a session, which are in cleared form. The name of the biometrics application alone is left out where a file's name says
+// it, too.
 pub(crate) fn tell(out: Stdout, session: &[u8]) {
     program_console::word(out, b"= rights:");
-    if has_all(session) {
+    if session.starts_with(&ALL) {
         program_console::word(out, b" all\n");
         return;
     }
-    let flags = base::byte(session, 0);
+    let [flags, travel, visa, certificates] = session.first_chunk().copied().unwrap_or([0; 4]);
     if flags == 0 {
         program_console::word(out, b" none\n");
         return;
     }
-    tell_application(out, b" travel", RECORDS, flags, base::byte(session, 1));
-    tell_application(out, b" visa", RECORDS, flags / 2, base::byte(session, 2));
-    tell_biometrics(out, session, flags / 4);
-    tell_files(out, session);
+    let files = base::part(session, 4, 16);
+    if flags & 1 != 0 {
+        tell_application(out, b" travel", Kind::Records, travel);
+    }
+    if flags & 2 != 0 {
+        tell_application(out, b" visa", Kind::Records, visa);
+    }
+    if flags & 4 != 0 && (certificates != 0 || files.iter().all(|byte| *byte == 0)) {
+        tell_application(out, b" biometrics", Kind::Certificates, certificates);
+    }
+    tell_files(out, files);
     program_console::end(out);
 }

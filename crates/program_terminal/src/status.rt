@@ -1,36 +1,32 @@
-// How a line or all of them ended. The numbers are those of the exit status.
-pub(crate) const GOOD: usize = 0;
+// How a line or all of them ended, and how a line says that it is not answered.
+use program_console::{result, words};
+use std::io::Stderr;
 
-// A line could not be read or was refused.
-pub(crate) const REFUSED: usize = 1;
-
-// The card's file cannot be read or written, or is no card.
-pub(crate) const NO_CARD: usize = 2;
-
-// The graver of two.
-pub(crate) fn worse(a: usize, b: usize) -> usize {
-    if a < b {
-        return b;
-    }
-    a
+// How all lines ended, the graver the further down. The numbers are those of the exit status.
+#[derive(Clone, Copy, PartialEq, Eq, PartialOrd, Ord)]
+pub(crate) enum Status {
+    Good,
+    Refused,
+    NoCard,
 }
 
-// Whether a line could be read, and how it ended.
+// Why a line has no answer.
 #[derive(Clone, Copy)]
-pub(crate) struct Ended {
-    pub(crate) good: bool,
-    pub(crate) status: usize,
+pub(crate) enum Fault {
+    // it cannot be read
+    Unread,
+    // it was refused, and that was said
+    Refused,
+    // the card's file cannot be read or written, or is no card, and that was said
+    NoCard,
 }
 
-// A line that could not be read.
-pub(crate) fn unread() -> Ended {
-    Ended {
-        good: false,
-        status: REFUSED,
+// Says why the functions for C refused a call, where they did.
+pub(crate) fn accepted(err: Stderr, r: u64) -> Result<(), Fault> {
+    let number = result::refusal(r);
+    if number == 0 {
+        return Ok(());
     }
-}
-
-// A line that was read, and ended so.
-pub(crate) fn read(status: usize) -> Ended {
-    Ended { good: true, status }
+    words::refusal(err, number);
+    Err(Fault::Refused)
 }

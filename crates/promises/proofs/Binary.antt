@@ -18,7 +18,6 @@ use Rattle.objects_writer.specs.Writing.{tlv}
 use Rattle.objects_writer.specs.Fitting.{object_length}
 use Rattle.objects_writer.proofs.Fitting.{length-tlv-part}
 use Rattle.objects_templates.specs.OffsetObject.{read_offset_object}
-use Rattle.objects_templates.specs.declared.OffsetObject.TheVariants.{Offset}
 use Rattle.objects_templates.proofs.Offsets.{offset_complete}
 use Rattle.store_files.specs.Files.{file_bytes}
 use Rattle.store_files.specs.declared.Transparent.{Transparent}
@@ -28,13 +27,11 @@ use Rattle.machine_session.specs.Session.{set_file}
 use Rattle.machine_session.specs.Resolve.{transparent_by, resolve_transparent}
 use Rattle.machine_session.specs.declared.Session.{Session}
 use Rattle.machine_session.specs.declared.Named.{Named}
-use Rattle.machine_session.specs.declared.ResolvedTransparent.{ResolvedTransparent}
-use Rattle.machine_session.specs.declared.ResolvedTransparent.TheVariants.{TransparentStop, TransparentAt}
 use Rattle.machine_session.proofs.Steps.{TransparentOk, resolve_transparent-well_formed}
 use Rattle.machine_apdu.specs.declared.Frame.{Frame}
 use Rattle.machine_action.specs.Tests.{le_only, lc_and_le, p1p2, id_or_current, on_transparent}
 use Rattle.machine_action.specs.declared.Action.{Action}
-use Rattle.machine_action.specs.declared.Action.TheVariants.{Status, ReadBinary, ReadBinaryOdd}
+use Rattle.machine_action.specs.declared.Action.TheVariants.{ReadBinary, ReadBinaryOdd}
 use Rattle.machine_binary.specs.ReadBinary.{names_current, p1_fits, read_named, read_offset, read_binary_on, read_binary}
 use Rattle.machine_binary.specs.ReadBinaryOdd.{read_odd_on, read_odd_by, read_binary_odd}
 use Rattle.machine_binary.proofs.OddReading.{odd_count, odd_bounds}
@@ -49,6 +46,7 @@ use Rattle.promises.proofs.Answering.{data_said, step_accepted, taken_accepted, 
 use Rattle.promises.proofs.Naming.{by_its_id, meant-by_id, inspected_resolved}
 use Rattle.promises.proofs.Deciding.{even_led, odd_led}
 use Rattle.promises.proofs.Doing.{read_named_lem, id-or-current}
+use Rattle.std.specs.Prelude.{Some, Result, Ok, Err}
 
 -- two fronts of a list agree up to the shorter
 fronts : (l : List ℕ) (m n : ℕ) → m ≤ length l → n ≤ length l → take (length (take m l)) (take n l) ≡ take (length (take n l)) (take m l)
@@ -67,11 +65,11 @@ abbrev even_count : List ℕ → ℕ → ℕ → Transparent → ℕ
 even_count img offset ne t = min ne (min 2048 (length (file_bytes img t) - offset))
 
 module _ (img : List ℕ) (s : Session) (offset nf ng : ℕ) (d e buf other : List ℕ) (room : 2050 ≤ length buf) (space : 2050 ≤ length other) where
-  abbrev Same : Action → Action → Type 0
+  abbrev Same : Result Action ℕ → Result Action ℕ → Type 0
   Same x y = SameRead ng (done x img s d buf) (done y img s e other)
 
   -- both get the same word
-  stopped : (w : ℕ) → ltb w 0x9000 ≡ true → Same (Status w) (Status w)
+  stopped : (w : ℕ) → ltb w 0x9000 ≡ true → Same (Err w) (Err w)
   unfolding done says
   stopped w h = let l = ltb-true w 0x9000 h in record {
     status = λ _. refl;
@@ -83,7 +81,7 @@ module _ (img : List ℕ) (s : Session) (offset nf ng : ℕ) (d e buf other : Li
   }
 
   -- Ne has no room for a byte in an object
-  small : (t : Transparent) (n : ℕ) → ng < 3 → Same (ReadBinary t offset n) (Status 0x6700)
+  small : (t : Transparent) (n : ℕ) → ng < 3 → Same (Ok (ReadBinary t offset n)) (Err 0x6700)
   unfolding done says
   small t n h = record {
     status = λ k. absurd (omega arith);
@@ -96,7 +94,7 @@ module _ (img : List ℕ) (s : Session) (offset nf ng : ℕ) (d e buf other : Li
 
   -- both return bytes of the file
   read : (t : Transparent) (m n : ℕ) → n ≤ 2048 → object_length m ≤ 2048 → offset + n ≤ length (file_bytes img t) → offset + m ≤ length (file_bytes img t)
-      → 3 ≤ ng → Same (ReadBinary t offset n) (ReadBinaryOdd t offset m)
+      → 3 ≤ ng → Same (Ok (ReadBinary t offset n)) (Ok (ReadBinaryOdd t offset m))
   unfolding done says
   read t m n h k i j g =
       let fb : List ℕ = file_bytes img t in
@@ -127,9 +125,9 @@ module _ (img : List ℕ) (s : Session) (offset nf ng : ℕ) (d e buf other : Li
       (λ b. simp b (small t (even_count img offset nf t) (leb-false 3 ng b)))))
       (λ a. simp a (stopped 0x6B00 refl))
 
-  onward : (x : ResolvedTransparent) → TransparentOk img s x → Same (on_transparent x (read_binary_on img offset nf)) (on_transparent x (read_odd_on img offset ng))
-  onward (TransparentStop w) h = stopped w h
-  onward (TransparentAt t) h = on t
+  onward : (x : Result Transparent ℕ) → TransparentOk img s x → Same (on_transparent x (read_binary_on img offset nf)) (on_transparent x (read_odd_on img offset ng))
+  onward (Err w) h = stopped w h
+  onward (Ok t) h = on t
 
 -- B1 on a file, by its size
 answered : (img : List ℕ) (s : Session) (t : Transparent) (offset ne : ℕ) (d buf : List ℕ) → OddAnswered img t offset ne (done (read_odd_on img offset ne t) img s d buf)
@@ -144,7 +142,7 @@ answered img s t offset ne d buf = record {
 
 -- what steps 7 to 9 answer, by the file's id
 module _ (img : List ℕ) (s : Session) (t : Transparent) where
-  abbrev answer : ResolvedTransparent
+  abbrev answer : Result Transparent ℕ
   answer = transparent_by img s (by_its_id img s t)
 
   resolved : (n : Named) → is_meant s n (TransparentFile t) ≡ true → resolve_transparent img s n ≡ answer
@@ -181,8 +179,8 @@ module _ (img : List ℕ) (s : Session) (ch : Chain) (cmd : List ℕ) (f : Frame
       (λ e. let h = eqb-false (p1p2 f) 0 e in rw ((id-or-current (p1p2 f)).1 h) (r.of_id h))
 
   -- the data says the offset
-  odd-offset : read_offset_object (data_of ch cmd) ≡ Offset offset
-  odd-offset = let x = offset_complete r.value r.size in ap read_offset_object r.asks ∙ x.1 ∙ ap Offset (x.2.offset_is ∙ sym r.offset_is)
+  odd-offset : read_offset_object (data_of ch cmd) ≡ Some offset
+  odd-offset = let x = offset_complete r.value r.size in ap read_offset_object r.asks ∙ x.1 ∙ ap Some (x.2.offset_is ∙ sym r.offset_is)
 
   odd-lengths : lc_and_le f ≡ true
   unfolding lc_and_le
@@ -200,11 +198,11 @@ both_reads img s ch c even odd buf other f g t offset v w x y =
     let b = taken_accepted img s c odd other w in
     let z = answer img s t in
     let o : step img s ch even buf ≡ done (on_transparent z (read_binary_on img offset f.ne)) img s (data_of ch even) buf =
-    step_accepted img s ch even buf a ∙ ap (λ (q : Action). done q img s (data_of ch even) buf) (even-decided img s ch even f t offset x) in
+    step_accepted img s ch even buf a ∙ ap (λ (q : Result Action ℕ). done q img s (data_of ch even) buf) (even-decided img s ch even f t offset x) in
     let p : step img s c odd other ≡ done (on_transparent z (read_odd_on img offset g.ne)) img s (data_of c odd) other =
     step_accepted img s c odd other b
-    ∙ ap (λ (q : Action). done q img s (data_of c odd) other) (odd-decided img s c odd g t offset y)
-    ∙ ap (λ (q : ResolvedTransparent). done (on_transparent q (read_odd_on img offset g.ne)) img s (data_of c odd) other) (resolved img s t _ (odd-named img s c odd g t offset y)) in
+    ∙ ap (λ (q : Result Action ℕ). done q img s (data_of c odd) other) (odd-decided img s c odd g t offset y)
+    ∙ ap (λ (q : Result Transparent ℕ). done (on_transparent q (read_odd_on img offset g.ne)) img s (data_of c odd) other) (resolved img s t _ (odd-named img s c odd g t offset y)) in
     let k = subst (TransparentOk img s) (resolved img s t (read_named f) (even-named img s ch even f t offset x).0) (resolve_transparent-well_formed img s (read_named f)) in
     rw (o, p) (onward img s offset f.ne g.ne (data_of ch even) (data_of c odd) buf other (accepted_room img s ch buf a) (accepted_room img s c other b) z k)
 
@@ -214,6 +212,6 @@ odd_reaches img s ch cmd buf f t offset v r there right =
     let i : Inspected img s (id_or_current (p1p2 f)) (TransparentFile t) = record { meant = odd-named img s ch cmd f t offset r; there = there; right = right } in
     let o : step img s ch cmd buf ≡ done (read_odd_on img offset f.ne t) img s (data_of ch cmd) buf =
     step_accepted img s ch cmd buf a
-    ∙ ap (λ (q : Action). done q img s (data_of ch cmd) buf) (odd-decided img s ch cmd f t offset r)
-    ∙ ap (λ (q : ResolvedTransparent). done (on_transparent q (read_odd_on img offset f.ne)) img s (data_of ch cmd) buf) (inspected_resolved img s (accepted_facts img s ch (length buf) a).0 t _ i) in
+    ∙ ap (λ (q : Result Action ℕ). done q img s (data_of ch cmd) buf) (odd-decided img s ch cmd f t offset r)
+    ∙ ap (λ (q : Result Transparent ℕ). done (on_transparent q (read_odd_on img offset f.ne)) img s (data_of ch cmd) buf) (inspected_resolved img s (accepted_facts img s ch (length buf) a).0 t _ i) in
     rw o (answered img s t offset f.ne (data_of ch cmd) buf)

@@ -15,17 +15,13 @@ use Rattle.base.proofs.Cases.{false-true, by_cases, if_else_ind, all_of_facts}
 use Rattle.store_records.specs.Body.{records}
 use Rattle.store_kinds.specs.Rules.{is_biometrics, biometrics_kind}
 use Rattle.store_image.specs.Image.{len_at, kind_at, find, has, body, records_of, well_formed}
-use Rattle.store_image.specs.declared.Found.{Found}
-use Rattle.store_image.specs.declared.Found.TheVariants.{At, Missing}
 use Rattle.store_image.proofs.Laws.{found_inside, found-head, found-body, has-found, has_missing, body_lacking, append-find, update-find, activate-find}
 use Rattle.machine_session.specs.declared.Session.{Session}
-use Rattle.machine_session.specs.declared.Verdict.{Verdict}
-use Rattle.machine_session.specs.declared.Verdict.TheVariants.{Accepted, Refused as NotTaken}
 use Rattle.machine_record.specs.SearchRecord.{search_status}
 use Rattle.machine_chain.specs.Chain.{Chain}
 use Rattle.machine_dispatch.specs.Decide.{decide, data_of}
 use Rattle.machine_action.specs.declared.Action.{Action}
-use Rattle.machine_action.specs.declared.Action.TheVariants.{Status, SelectApplication, SelectFile, ReadBinary, UpdateBinary, Activate, AppendRecord, ReadRecord, SearchRecord, Report, ReadBinaryOdd}
+use Rattle.machine_action.specs.declared.Action.TheVariants.{SelectApplication, SelectFile, ReadBinary, UpdateBinary, Activate, AppendRecord, ReadRecord, SearchRecord, Report, ReadBinaryOdd}
 use Rattle.machine_answer.specs.Outcome.{Outcome, says}
 use Rattle.machine.specs.Effects.{searched, done}
 use Rattle.machine.specs.Step.{step_by}
@@ -35,6 +31,8 @@ use Rattle.malquindo.specs.Face.{chain_part, chain_of_c, Called, malformed, call
 use Rattle.promises.specs.Linked.{CCall, CommandC, after_call_c, after_c, additions_c, history_c}
 use Rattle.promises.specs.Bodies.{file_place_in, file_length_in, FileC, CFile, CFileStays, lent_body}
 use Rattle.promises.proofs.Calling.{c_holds}
+use Rattle.std.specs.Prelude.{Option, Some, None, Result, Ok, Err}
+use Rattle.machine_session.specs.declared.Refusal.{Refusal}
 
 -- ---- where a file's body stands
 
@@ -64,7 +62,7 @@ module _ (img : List ℕ) (k r : ℕ) where
         head = λ h. absurd (omega arith);
       }
 
-  file-at : (s n : ℕ) → well_formed img ≡ true → find img k ≡ At s n → r ≡ found_result (At s n) → FileC img k r
+  file-at : (s n : ℕ) → well_formed img ≡ true → find img k ≡ Some (s, n) → r ≡ found_result (Some (s, n)) → FileC img k r
   file-at s n o e f =
       let i = found_inside img k s n e in
       let h = found-head img k s n e in
@@ -75,7 +73,7 @@ module _ (img : List ℕ) (k r : ℕ) where
       record {
         there_complete = λ _ _. omega (arith, h.0);
         there_sound = λ _. (o, has-found img k s n e);
-        stands = λ _. e ∙ ap₂ (λ (x y : ℕ). At x y) (sym p) (sym l);
+        stands = λ _. e ∙ ap₂ (λ (x y : ℕ). Some (x, y)) (sym p) (sym l);
         within = omega arith;
         bytes = λ _. ap₂ (λ (x y : ℕ). part img x y) p l ∙ sym (found-body img k s n e);
         head = λ _. (omega (arith, h.0), ap (λ (x : ℕ). len_at img (x - 6)) p ∙ h.1 ∙ sym l, ap (λ (x : ℕ). kind_at img (x - 6)) p ∙ h.2);
@@ -85,9 +83,9 @@ pub c_file : CFile
 unfolding file_result
 c_file img k = by_cases (well_formed img) (λ o. go o (find img k) refl) (λ o. file-none img k _ (simp o) (λ t _. false-true (sym o ∙ t)))
   where
-    go : well_formed img ≡ true → (f : Found) → find img k ≡ f → FileC img k (file_result img k)
-    go o (At s n) e = file-at img k _ s n o e (simp (o, e))
-    go o Missing e = file-none img k _ (simp (o, e)) (λ _ h. false-true (sym (has_missing img k e) ∙ h))
+    go : well_formed img ≡ true → (f : Option (ℕ × ℕ)) → find img k ≡ f → FileC img k (file_result img k)
+    go o (Some (s, n)) e = file-at img k _ s n o e (simp (o, e))
+    go o None e = file-none img k _ (simp (o, e)) (λ _ h. false-true (sym (has_missing img k e) ∙ h))
 
 -- what is not there is told as 0
 none_told : (r : ℕ) → (1 ≤ r → ⊥) → r ≡ 0
@@ -100,25 +98,25 @@ file_lacking img k h = none_told (file_result img k) (λ g. false-true (sym h �
 -- ---- a command leaves every body where it is
 
 module _ (img : List ℕ) (s : Session) (buf : List ℕ) (k : ℕ) where
-  done-find : (x : Action) (d : List ℕ) → find (done x img s d buf).image k ≡ find img k
+  done-find : (x : Result Action ℕ) (d : List ℕ) → find (done x img s d buf).image k ≡ find img k
   unfolding done says searched
-  done-find (Status w) d = refl
-  done-find (SelectApplication a) d = refl
-  done-find (SelectFile f) d = refl
-  done-find (ReadBinary t o n) d = refl
-  done-find (UpdateBinary n w) d = update-find img (biometrics_kind n) w.offset (part d w.bytes.at w.bytes.len) k
-  done-find (Activate n) d = activate-find img (biometrics_kind n) k
-  done-find (AppendRecord r) d = append-find img r.kind d k
-  done-find (ReadRecord r a b) d = refl
-  done-find (SearchRecord r q ne) d =
+  done-find (Err w) d = refl
+  done-find (Ok (SelectApplication a)) d = refl
+  done-find (Ok (SelectFile f)) d = refl
+  done-find (Ok (ReadBinary t o n)) d = refl
+  done-find (Ok (UpdateBinary n w)) d = update-find img (biometrics_kind n) w.offset (part d w.bytes.at w.bytes.len) k
+  done-find (Ok (Activate n)) d = activate-find img (biometrics_kind n) k
+  done-find (Ok (AppendRecord r)) d = append-find img r.kind d k
+  done-find (Ok (ReadRecord r a b)) d = refl
+  done-find (Ok (SearchRecord r q ne)) d =
       if_else_ind (λ (x : Outcome). find x.image k ≡ find img k) (eqb (search_status (records_of img r.kind) d q ne) 0x9000) (λ e. refl) (λ e. refl)
-  done-find (Report f p2) d = refl
-  done-find (ReadBinaryOdd t o n) d = refl
+  done-find (Ok (Report f p2)) d = refl
+  done-find (Ok (ReadBinaryOdd t o n)) d = refl
 
-  step_by-find : (v : Verdict) (ch : Chain) (cmd : List ℕ) → find (step_by v img s ch cmd buf).image k ≡ find img k
+  step_by-find : (v : Result (Unit {0}) Refusal) (ch : Chain) (cmd : List ℕ) → find (step_by v img s ch cmd buf).image k ≡ find img k
   unfolding step_by
-  step_by-find Accepted ch cmd = done-find (decide img s ch cmd) (data_of ch cmd)
-  step_by-find (NotTaken r) ch cmd = refl
+  step_by-find (Ok tt) ch cmd = done-find (decide img s ch cmd) (data_of ch cmd)
+  step_by-find (Err r) ch cmd = refl
 
 called-find : (img ses cmd buf : List ℕ) (k : ℕ) → find (called img ses cmd buf).image k ≡ find img k
 unfolding called malformed step_lent

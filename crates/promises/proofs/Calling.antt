@@ -18,8 +18,6 @@ use Rattle.store_image.specs.Image.{has, well_formed, records_of}
 use Rattle.machine_session.specs.Verdict.{refusal_number, verdict_number, verdict, open_verdict}
 use Rattle.machine_session.specs.declared.Refusal.{Refusal}
 use Rattle.machine_session.specs.declared.Refusal.TheVariants.{ShortBuffer, BadImage, BadRights, BadSession}
-use Rattle.machine_session.specs.declared.Verdict.{Verdict}
-use Rattle.machine_session.specs.declared.Verdict.TheVariants.{Accepted, Refused}
 use Rattle.machine_session.specs.declared.Session.{Session}
 use Rattle.machine_apdu.specs.Shape.{shape_of}
 use Rattle.machine_chain.specs.Chain.{Chain}
@@ -30,8 +28,6 @@ use Rattle.machine_cut.proofs.Cutting.{cut-stores_small}
 use Rattle.machine_session_bytes.specs.Layout.{session_in}
 use Rattle.malquindo.specs.Face.{result_of, opening_verdict, takes_session, opened_in, open_result, open_session, chain_part, is_session_c, chain_of_c, Called, malformed, called, cut_result, CalledCut, called_cut, move_result}
 use Rattle.store_move.specs.Moving.{move_refusal_number, move_card, move_card_into, Numbered}
-use Rattle.store_move.specs.declared.Moved.{Moved}
-use Rattle.store_move.specs.declared.Moved.TheVariants.{Image, Refused as MoveRefused}
 use Rattle.store_move.proofs.Moves.{move_refusal_number-listed, move_refusal_number-some, move_card_numbered}
 use Rattle.promises.specs.Calls.{Call, Open, Command, Move, Cut, image_after_move, after_call, after, added_by, added_by_cut, added, additions, history}
 use Rattle.promises.specs.Promises.{Whole, Kept, Answered, Reads, Names, MovedCard}
@@ -46,16 +42,18 @@ use Rattle.promises.proofs.Answering.{step-verdict}
 use Rattle.promises.proofs.Linking.{session-long, called-session, called-malformed, cut-session, cut-malformed, chain_left, Left, session-left, left-chain, back_left, back_refused, back_none, session-bytes, opening-bytes, chain-bytes, result-whole}
 use Rattle.promises.proofs.Moving.{move_done}
 use Rattle.store_move_laws.proofs.Laws.{refused_target}
+use Rattle.std.specs.Prelude.{Result, Ok, Err}
+use Rattle.store_move.specs.declared.MoveRefusal.{MoveRefusal}
 
 -- ---- the numbers of a result
 
-verdict_back : (x : Verdict) → verdict_by (verdict_number x) ≡ x
+verdict_back : (x : Result (Unit {0}) Refusal) → verdict_by (verdict_number x) ≡ x
 unfolding verdict_by verdict_number refusal_number
-verdict_back Accepted = refl
-verdict_back (Refused ShortBuffer) = refl
-verdict_back (Refused BadImage) = refl
-verdict_back (Refused BadRights) = refl
-verdict_back (Refused BadSession) = refl
+verdict_back (Ok tt) = refl
+verdict_back (Err ShortBuffer) = refl
+verdict_back (Err BadImage) = refl
+verdict_back (Err BadRights) = refl
+verdict_back (Err BadSession) = refl
 
 -- ---- bytes that are no session
 
@@ -63,12 +61,12 @@ verdict_back (Refused BadSession) = refl
 number-refused : (img : List ℕ) (n : ℕ) → Memᴰ (verdict_number (verdict img false n)) (1 ∷ 2 ∷ 4 ∷ [])
 unfolding verdict verdict_number refusal_number
 number-refused img n =
-    let P : Verdict → Type 0 = λ x. Memᴰ (verdict_number x) (1 ∷ 2 ∷ 4 ∷ []) in
+    let P : Result (Unit {0}) Refusal → Type 0 = λ x. Memᴰ (verdict_number x) (1 ∷ 2 ∷ 4 ∷ []) in
     if_else_ind P (ltb n 2050)
     (λ _. Memᴰ.head refl)
     (λ _. if_else_ind P (well_formed img) (λ _. Memᴰ.tail (Memᴰ.tail (Memᴰ.head refl))) (λ _. Memᴰ.tail (Memᴰ.head refl)))
 
-refused-result : (v : Verdict) → (refusal_in (result_of v 0 0) ≡ verdict_number v) × (length_in (result_of v 0 0) ≡ 0) × (status_in (result_of v 0 0) ≡ 0)
+refused-result : (v : Result (Unit {0}) Refusal) → (refusal_in (result_of v 0 0) ≡ verdict_number v) × (length_in (result_of v 0 0) ≡ 0) × (status_in (result_of v 0 0) ≡ 0)
 unfolding result_of refusal_in length_in status_in
 refused-result v = (omega arith, omega arith, omega arith)
 
@@ -126,10 +124,10 @@ c_sees img ses cmd buf bs b y =
 -- ---- 1
 
 -- a number above 0 is that of a refusal
-some-refused : (v : Verdict) → 1 ≤ verdict_number v → (r : Refusal) × (v ≡ Refused r)
+some-refused : (v : Result (Unit {0}) Refusal) → 1 ≤ verdict_number v → (r : Refusal) × (v ≡ Err r)
 unfolding verdict_number
-some-refused Accepted h = absurd (omega arith)
-some-refused (Refused r) h = (r, refl)
+some-refused (Ok tt) h = absurd (omega arith)
+some-refused (Err r) h = (r, refl)
 
 -- for a session
 module _ (img ses cmd buf : List ℕ) (bs : AllBytes ses) (b : AllBytes cmd) (y : is_session_c ses ≡ true) where
@@ -213,7 +211,7 @@ malformed-kept img ses buf =
       chain_kept = λ z _. z;
       rest_kept = refl;
       size_kept = refl;
-      number = subst (λ (x : Verdict). Memᴰ (verdict_number x) (0 ∷ 1 ∷ 2 ∷ 4 ∷ [])) (sym e) (among_numbers _ m);
+      number = subst (λ (x : Result (Unit {0}) Refusal). Memᴰ (verdict_number x) (0 ∷ 1 ∷ 2 ∷ 4 ∷ [])) (sym e) (among_numbers _ m);
       refused = λ _. (r.1, r.2, refl, refl, refl, refl);
     }
 
@@ -275,8 +273,8 @@ refused-moved w = omega arith
 pub c_moves : CMoves
 c_moves old list t = go (move_card old list (length t)) refl (move_card_numbered old list (length t))
   where
-    go : (m : Moved) → move_card old list (length t) ≡ m → Numbered m → MovedC old list t (move_result m)
-    go (Image n) e h =
+    go : (m : Result ℕ MoveRefusal) → move_card old list (length t) ≡ m → Numbered m → MovedC old list t (move_result m)
+    go (Ok n) e h =
         let z = image-refusal n h in
         let l = image-moved n h in
         record {
@@ -284,7 +282,7 @@ c_moves old list t = go (move_card old list (length t)) refl (move_card_numbered
           refused = λ p. absurd (omega (arith, z, p));
           image = λ p. subst (λ (k : ℕ). MovedCard old list t k (take k (move_card_into old list t))) (sym l) (move_done old list t n e);
         }
-    go (MoveRefused w) e h =
+    go (Err w) e h =
         let z = refused-refusal (move_refusal_number w) in
         record {
           number = subst (λ (k : ℕ). Memᴰ k (0 ∷ 2 ∷ 10 ∷ 11 ∷ 12 ∷ 13 ∷ [])) (sym z) (Memᴰ.tail (move_refusal_number-listed w));
@@ -310,11 +308,11 @@ unfolding meanings
 meanings_append [] ds = refl
 meanings_append (c ∷ cs) ds = ap (λ (l : List Call). meaning c ∷ l) (meanings_append cs ds)
 
-image_after_move-same : (m : Moved) (t img : List ℕ) → Numbered m → image_after_move_c (move_result m) t img ≡ image_after_move m t img
+image_after_move-same : (m : Result ℕ MoveRefusal) (t img : List ℕ) → Numbered m → image_after_move_c (move_result m) t img ≡ image_after_move m t img
 unfolding image_after_move_c
-image_after_move-same (Image n) t img h =
+image_after_move-same (Ok n) t img h =
     ap₂ (λ (b : Bool) (k : ℕ). if_else b (take k t) img) (eq-eqb (refusal_in n) 0 (image-refusal n h)) (image-moved n h)
-image_after_move-same (MoveRefused w) t img h =
+image_after_move-same (Err w) t img h =
     ap (λ (b : Bool). if_else b (take (moved_in (move_refusal_number w * 4294967296)) t) img)
     (ne_eqb (refusal_in (move_refusal_number w * 4294967296)) 0 (λ e. omega (arith, e, refused-refusal (move_refusal_number w), move_refusal_number-some w)))
 
@@ -448,7 +446,7 @@ c_leaves-none_out img cs ses cmd buf f x r o bs b t z =
 module _ (rights ses : List ℕ) where
   -- by whether there are 60 bytes of rights, and whether the buffer takes a session
   abbrev opens_by : Bool → Bool → ℕ
-  opens_by a b = result_of (opening_verdict (if_else a Accepted (Refused BadRights)) b) 0 0
+  opens_by a b = result_of (opening_verdict (if_else a (Ok tt) (Err BadRights)) b) 0 0
 
   result_by : open_result rights ses ≡ opens_by (eqb (length rights) 60) (takes_session ses)
   unfolding open_result opening open_verdict

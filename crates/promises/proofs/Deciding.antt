@@ -19,28 +19,20 @@ use Rattle.store_files.specs.declared.File.TheVariants.{RecordFile}
 use Rattle.objects_writer.specs.Writing.{tlv, tag_bytes, length_bytes}
 use Rattle.objects_reader.proofs.Unique.{length-tlv}
 use Rattle.objects_templates.specs.Search.{SearchFields, search_data, read_search, SearchSized, Searches}
-use Rattle.objects_templates.specs.declared.Query.{Query}
-use Rattle.objects_templates.specs.declared.Query.TheVariants.{Ask, NoQuery}
 use Rattle.objects_templates.specs.declared.Search.{Search}
 use Rattle.objects_templates.proofs.Searches.{search_sound, search_complete}
 use Rattle.machine_session.specs.Order.{in_order}
 use Rattle.machine_session.specs.Resolve.{resolve_record}
 use Rattle.machine_session.specs.declared.Access.TheVariants.{Read}
-use Rattle.machine_session.specs.declared.ResolvedRecord.{ResolvedRecord}
-use Rattle.machine_session.specs.declared.ResolvedRecord.TheVariants.{RecordAt}
 use Rattle.machine_session.specs.declared.Session.{Session}
-use Rattle.machine_session.specs.declared.Verdict.{Verdict}
-use Rattle.machine_session.specs.declared.Verdict.TheVariants.{Accepted, Refused}
 use Rattle.machine_session.proofs.Steps.{in_order-each}
 use Rattle.machine_apdu.specs.Shape.{be16_at, or_most, header_of, framed, first_shape, shapes, shape_of}
-use Rattle.machine_apdu.specs.declared.Apdu.{Apdu}
-use Rattle.machine_apdu.specs.declared.Apdu.TheVariants.{Bad, Good}
 use Rattle.machine_apdu.specs.declared.Frame.{Frame}
 use Rattle.machine_apdu.specs.declared.Header.{Header}
 use Rattle.machine_apdu.proofs.Laws.{shape_facts}
 use Rattle.machine_action.specs.Tests.{all_le, on_record}
 use Rattle.machine_action.specs.declared.Action.{Action}
-use Rattle.machine_action.specs.declared.Action.TheVariants.{Status, SelectApplication, SelectFile, ReadBinary, UpdateBinary, Activate, AppendRecord, ReadRecord, SearchRecord, Report, ReadBinaryOdd}
+use Rattle.machine_action.specs.declared.Action.TheVariants.{SelectApplication, SelectFile, ReadBinary, UpdateBinary, Activate, AppendRecord, ReadRecord, SearchRecord, Report, ReadBinaryOdd}
 use Rattle.machine_binary.specs.ReadBinary.{read_binary}
 use Rattle.machine_binary.specs.ReadBinaryOdd.{read_binary_odd}
 use Rattle.machine_record.specs.SearchRecord.{file_in, search_named, search_on, search_by, search_record}
@@ -56,10 +48,12 @@ use Rattle.promises.proofs.Answering.{step_accepted, accepted_facts, taken_accep
 use Rattle.promises.proofs.Naming.{record_meant, record_permitted, search_meant, meant_resolved}
 use Rattle.promises.proofs.Wording.{refusing_not, Worded}
 use Rattle.promises.proofs.Whole.{pair_facts, data_length, data_bytes, class_decided, not_both, Way, stops, links, whole, way}
+use Rattle.std.specs.Prelude.{Option, Some, None, Result, Ok, Err}
+use Rattle.machine_session.specs.declared.Refusal.{Refusal}
 
 -- ---- steps 1 to 3
 
-module _ (ch : Chain) (cmd : List ℕ) (f : Frame) (e : whole_of ch cmd ≡ Good f) where
+module _ (ch : Chain) (cmd : List ℕ) (f : Frame) (e : whole_of ch cmd ≡ Some f) where
   -- CLA 00 and INS B0, or B1, lead to READ BINARY
   pub even_led : (img : List ℕ) (s : Session) → is_pair f 0x00 0xB0 ≡ true → decide img s ch cmd ≡ read_binary img s f
   unfolding by_class by_ins is_command
@@ -91,13 +85,13 @@ module _ (img : List ℕ) (s : Session) (f : Frame) (d : List ℕ) where
   passed t = simp (all_of_accepted (eqb f.header.p1 0 ∷ eqb f.header.p2 0xF8 ∷ []) (t.p1, (t.p2, tt)), all_of_accepted (leb 1 f.lc ∷ all_le f ∷ []) (t.lc, (t.le, tt)))
 
   -- where a search is decided they held
-  tested : (r : Rule) (q : Search) (ne : ℕ) → search_record img s f d ≡ SearchRecord r q ne → Tests f
+  tested : (r : Rule) (q : Search) (ne : ℕ) → search_record img s f d ≡ Ok (SearchRecord r q ne) → Tests f
   unfolding search_record
   tested r q ne =
-      in_order-each (λ (x : Action). x ≡ SearchRecord r q ne → Tests f) _ _ (no 0x6A86, (no 0x6700, tt))
+      in_order-each (λ (x : Result Action ℕ). x ≡ Ok (SearchRecord r q ne) → Tests f) _ _ (no 0x6A86, (no 0x6700, tt))
       (λ p e. let a = all_of_facts _ p.0 in let b = all_of_facts _ p.1.0 in record { p1 = a.0; p2 = a.1.0; lc = b.0; le = b.1.0 })
     where
-      no : (w : ℕ) → Status w ≡ SearchRecord r q ne → Tests f
+      no : (w : ℕ) → Err w ≡ Ok (SearchRecord r q ne) → Tests f
       no w e = let z : ◌≡◌ {A = ℕ} 0 1 = cc in absurd (omega arith)
 
 -- ---- the twins
@@ -116,9 +110,9 @@ some_data x z =
 
 -- steps 7 to 9 answer the file of a search
 pub searching_resolved : (img : List ℕ) (s : Session) (ch : Chain) (cmd buf : List ℕ) (f : Frame) (x : SearchFields) (r : Rule)
-    → verdict_on img s ch (length buf) ≡ Accepted
+    → verdict_on img s ch (length buf) ≡ (Ok tt)
     → Searching s ch cmd f x r
-    → resolve_record img s Read (search_named x.file) ≡ RecordAt r
+    → resolve_record img s Read (search_named x.file) ≡ Ok r
 searching_resolved img s ch cmd buf f x r a h =
     meant_resolved s r h.permitted.listed img (accepted_facts img s ch (length buf) a).1 Read h.permitted.right (search_named x.file)
     (sym (search_meant s x.file (RecordFile r) h.permitted.listed) ∙ h.meant)
@@ -154,18 +148,18 @@ search_reached img s ch cmd f x c =
     }
 
 -- and an accepted one has that outcome
-pub reached-outcome : (img : List ℕ) (s : Session) (ch : Chain) (cmd buf : List ℕ) (f : Frame) (x : SearchFields) (k : Reached img s ch cmd f x) (z : ResolvedRecord)
-    → verdict_on img s ch (length buf) ≡ Accepted
+pub reached-outcome : (img : List ℕ) (s : Session) (ch : Chain) (cmd buf : List ℕ) (f : Frame) (x : SearchFields) (k : Reached img s ch cmd f x) (z : Result Rule ℕ)
+    → verdict_on img s ch (length buf) ≡ (Ok tt)
     → resolve_record img s Read (search_named x.file) ≡ z
     → step img s ch cmd buf ≡ done (on_record z (search_on k.query f.ne)) img s (data_of ch cmd) buf
 reached-outcome img s ch cmd buf f x k z a e =
     step_accepted img s ch cmd buf a
-    ∙ ap (λ (y : Action). done y img s (data_of ch cmd) buf) (k.decided ∙ ap (λ (y : ResolvedRecord). on_record y (search_on k.query f.ne)) e)
+    ∙ ap (λ (y : Result Action ℕ). done y img s (data_of ch cmd) buf) (k.decided ∙ ap (λ (y : Result Rule ℕ). on_record y (search_on k.query f.ne)) e)
 
 pub search_decided_sound : (img : List ℕ) (s : Session) (ch : Chain) (cmd : List ℕ) (r : Rule) (q : Search) (ne : ℕ)
     → AllBytes (so_far ch)
     → AllBytes cmd
-    → decide img s ch cmd ≡ SearchRecord r q ne
+    → decide img s ch cmd ≡ Ok (SearchRecord r q ne)
     → (f : Frame) × (x : SearchFields) × Searching s ch cmd f x r × (ne ≡ f.ne) × Searches (data_of ch cmd) q x
 search_decided_sound img s ch cmd r q ne a b e = go (way img s ch cmd)
   where
@@ -173,12 +167,12 @@ search_decided_sound img s ch cmd r q ne a b e = go (way img s ch cmd)
     d = data_of ch cmd
 
     -- the reference of the fields is that of the data
-    here : (x : SearchFields) → file_in d q ≡ x.file → resolve_record img s Read (search_named (file_in d q)) ≡ RecordAt r → resolve_record img s Read (search_named x.file) ≡ RecordAt r
+    here : (x : SearchFields) → file_in d q ≡ x.file → resolve_record img s Read (search_named (file_in d q)) ≡ Ok r → resolve_record img s Read (search_named x.file) ≡ Ok r
     here x i e = ap (λ (l : List ℕ). resolve_record img s Read (search_named l)) (sym i) ∙ e
 
     go : Way img s ch cmd → (f : Frame) × (x : SearchFields) × Searching s ch cmd f x r × (ne ≡ f.ne) × Searches d q x
-    go (stops w z y) = let y : Status w ≡ SearchRecord r q ne = sym y ∙ e in let y : ◌≡◌ {A = ℕ} 0 1 = cc in absurd (omega arith)
-    go (links f y) = let y : Status 0x9000 ≡ SearchRecord r q ne = sym y.action ∙ e in let y : ◌≡◌ {A = ℕ} 0 1 = cc in absurd (omega arith)
+    go (stops w z y) = let y : ◌≡◌ {A = Result Action ℕ} (Err w) (Ok (SearchRecord r q ne)) = sym y ∙ e in let y : ◌≡◌ {A = ℕ} 0 1 = cc in absurd (omega arith)
+    go (links f y) = let y : ◌≡◌ {A = Result Action ℕ} (Err 0x9000) (Ok (SearchRecord r q ne)) = sym y.action ∙ e in let y : ◌≡◌ {A = ℕ} 0 1 = cc in absurd (omega arith)
     go (whole f y) =
         let z = y.whole in
         let h : SearchBy img s f d r q ne = subst (From img s f d) e y.from in
@@ -204,13 +198,13 @@ search_decided_sound img s ch cmd r q ne a b e = go (way img s ch cmd)
 -- ---- the same of what is answered
 
 -- a call that gets 9000 or 6282 is accepted
-two_accepted : (img : List ℕ) (s : Session) (ch : Chain) (cmd buf : List ℕ) → ((step img s ch cmd buf).answer.status ≡ 0x9000) ⊎ ((step img s ch cmd buf).answer.status ≡ 0x6282) → verdict_on img s ch (length buf) ≡ Accepted
+two_accepted : (img : List ℕ) (s : Session) (ch : Chain) (cmd buf : List ℕ) → ((step img s ch cmd buf).answer.status ≡ 0x9000) ⊎ ((step img s ch cmd buf).answer.status ≡ 0x6282) → verdict_on img s ch (length buf) ≡ (Ok tt)
 unfolding step step_by
 two_accepted img s ch cmd buf w = go (verdict_on img s ch (length buf)) w
   where
-    go : (x : Verdict) → ((step_by x img s ch cmd buf).answer.status ≡ 0x9000) ⊎ ((step_by x img s ch cmd buf).answer.status ≡ 0x6282) → x ≡ Accepted
-    go Accepted w = refl
-    go (Refused r) w = absurd (⊎_elim (λ e. omega (arith, e)) (λ e. omega (arith, e)) w)
+    go : (x : Result (Unit {0}) Refusal) → ((step_by x img s ch cmd buf).answer.status ≡ 0x9000) ⊎ ((step_by x img s ch cmd buf).answer.status ≡ 0x6282) → x ≡ (Ok tt)
+    go (Ok tt) w = refl
+    go (Err r) w = absurd (⊎_elim (λ e. omega (arith, e)) (λ e. omega (arith, e)) w)
 
 pub only_searches : OnlySearches
 only_searches img s ch cmd buf f a b e p w = by_way (way img s ch cmd)
@@ -225,34 +219,34 @@ only_searches img s ch cmd buf f a b e p w = by_way (way img s ch cmd)
     other : {A : Type 0} (i : ℕ) → eqb f.header.ins i ≡ true → eqb 0xA2 i ≡ false → A
     other i h n = false-true (sym n ∙ ap (λ (k : ℕ). eqb k i) (sym ins) ∙ h)
 
-    same-frame : (g : Frame) → whole_of ch cmd ≡ Good g → g ≡ f
-    same-frame g z = let y : Good g ≡ Good f = sym z ∙ e in cc
+    same-frame : (g : Frame) → whole_of ch cmd ≡ Some g → g ≡ f
+    same-frame g z = let y : Some g ≡ Some f = sym z ∙ e in cc
 
-    go : (x : Action) → decide img s ch cmd ≡ x
+    go : (x : Result Action ℕ) → decide img s ch cmd ≡ x
         → ((done x img s (data_of ch cmd) buf).answer.status ≡ 0x9000) ⊎ ((done x img s (data_of ch cmd) buf).answer.status ≡ 0x6282)
         → From img s f (data_of ch cmd) x → Worded x
         → (x : SearchFields) × (r : Rule) × Searching s ch cmd f x r
-    go (Status v) z w h k =
+    go (Err v) z w h k =
         unfold done says in absurd (⊎_elim (refusing_not v 0x9000 k refl) (refusing_not v 0x6282 k refl) w)
-    go (SelectApplication a) z w h k = other 0xA4 h.0.1 refl
-    go (SelectFile g) z w h k = other 0xA4 h.0.1 refl
-    go (ReadBinary u a n) z w h k = other 0xB0 h.0.1 refl
-    go (UpdateBinary n v) z w h k = other 0xD7 h.0.1 refl
-    go (Activate n) z w h k = other 0x44 h.0.1 refl
-    go (AppendRecord r) z w h k = other 0xE2 h.0.1 refl
-    go (ReadRecord r a n) z w h k = other 0xB2 h.pair.1 refl
-    go (SearchRecord r q ne) z w h k =
+    go (Ok (SelectApplication a)) z w h k = other 0xA4 h.0.1 refl
+    go (Ok (SelectFile g)) z w h k = other 0xA4 h.0.1 refl
+    go (Ok (ReadBinary u a n)) z w h k = other 0xB0 h.0.1 refl
+    go (Ok (UpdateBinary n v)) z w h k = other 0xD7 h.0.1 refl
+    go (Ok (Activate n)) z w h k = other 0x44 h.0.1 refl
+    go (Ok (AppendRecord r)) z w h k = other 0xE2 h.0.1 refl
+    go (Ok (ReadRecord r a n)) z w h k = other 0xB2 h.pair.1 refl
+    go (Ok (SearchRecord r q ne)) z w h k =
         let y = search_decided_sound img s ch cmd r q ne a b z in
         (y.1, r, subst (λ (g : Frame). Searching s ch cmd g y.1 r) (same-frame y.0 y.2.command.shape) y.2)
-    go (Report g p2) z w h k = other 0x5E h.0.1 refl
-    go (ReadBinaryOdd u a n) z w h k = other 0xB1 h.0.1 refl
+    go (Ok (Report g p2)) z w h k = other 0x5E h.0.1 refl
+    go (Ok (ReadBinaryOdd u a n)) z w h k = other 0xB1 h.0.1 refl
 
     -- the whole command of frame f is no other
     by_way : Way img s ch cmd → (x : SearchFields) × (r : Rule) × Searching s ch cmd f x r
     by_way (stops v n y) =
         unfold done says in
         absurd (⊎_elim (refusing_not v 0x9000 n refl) (refusing_not v 0x6282 n refl)
-        (subst (λ (x : Action). ((done x img s (data_of ch cmd) buf).answer.status ≡ 0x9000) ⊎ ((done x img s (data_of ch cmd) buf).answer.status ≡ 0x6282)) y u))
+        (subst (λ (x : Result Action ℕ). ((done x img s (data_of ch cmd) buf).answer.status ≡ 0x9000) ⊎ ((done x img s (data_of ch cmd) buf).answer.status ≡ 0x6282)) y u))
     by_way (links g y) = absurd (not_both ch cmd f g e (pair_facts f 0x00 0xA2 p).0 y.shape y.turned.link)
     by_way (whole g y) =
         let q = same-frame g y.whole in
@@ -260,18 +254,18 @@ only_searches img s ch cmd buf f a b e p w = by_way (way img s ch cmd)
 
 pub search_refused : SearchRefused
 search_refused img s ch cmd buf f a b t e h n =
-    ap (λ (o : Outcome). o.answer.status) (step_accepted img s ch cmd buf (taken_accepted img s ch cmd buf t) ∙ ap (λ (x : Action). done x img s (data_of ch cmd) buf) decided)
+    ap (λ (o : Outcome). o.answer.status) (step_accepted img s ch cmd buf (taken_accepted img s ch cmd buf t) ∙ ap (λ (x : Result Action ℕ). done x img s (data_of ch cmd) buf) decided)
     ∙ said
   where
     five : Bool
     five = all_of (leb 1 f.lc ∷ all_le f ∷ [])
 
-    no-query : read_search (data_of ch cmd) ≡ NoQuery
+    no-query : read_search (data_of ch cmd) ≡ None
     no-query = go (read_search (data_of ch cmd)) refl
       where
-        go : (q : Query) → read_search (data_of ch cmd) ≡ q → read_search (data_of ch cmd) ≡ NoQuery
-        go NoQuery z = z
-        go (Ask q) z =
+        go : (q : Option Search) → read_search (data_of ch cmd) ≡ q → read_search (data_of ch cmd) ≡ None
+        go None z = z
+        go (Some q) z =
             let k = search_sound (data_of ch cmd) q z (data_bytes ch cmd f e a b) in
             absurd (n k.0 k.1.written k.1.sized)
 
@@ -281,16 +275,16 @@ search_refused img s ch cmd buf f a b t e h n =
     p2 : eqb f.header.p2 0xF8 ≡ true
     p2 = ap (λ (y : Header). eqb y.p2 0xF8) h
 
-    tests : search_record img s f (data_of ch cmd) ≡ if_else five (search_by img s f.ne (data_of ch cmd) (read_search (data_of ch cmd))) (Status 0x6700)
+    tests : search_record img s f (data_of ch cmd) ≡ if_else five (search_by img s f.ne (data_of ch cmd) (read_search (data_of ch cmd))) (Err 0x6700)
     tests = unfold search_record in_order in simp (all_of_accepted (eqb f.header.p1 0 ∷ eqb f.header.p2 0xF8 ∷ []) (p1, (p2, tt)))
 
-    decided : decide img s ch cmd ≡ if_else five (Status 0x6A80) (Status 0x6700)
+    decided : decide img s ch cmd ≡ if_else five (Err 0x6A80) (Err 0x6700)
     decided =
         led ch cmd f e img s (ap (λ (y : Header). y.cla) h) (ap (λ (y : Header). y.ins) h)
         ∙ tests
-        ∙ ap (λ (q : Query). if_else five (search_by img s f.ne (data_of ch cmd) q) (Status 0x6700)) no-query
+        ∙ ap (λ (q : Option Search). if_else five (search_by img s f.ne (data_of ch cmd) q) (Err 0x6700)) no-query
 
-    said : (done (if_else five (Status 0x6A80) (Status 0x6700)) img s (data_of ch cmd) buf).answer.status ≡ if_else five 0x6A80 0x6700
+    said : (done (if_else five (Err 0x6A80) (Err 0x6700)) img s (data_of ch cmd) buf).answer.status ≡ if_else five 0x6A80 0x6700
     said = unfold done says in by_cases five (λ y. simp y) (λ y. simp y)
 
 -- ---- m6 of the card to try is such a command, in either spelling

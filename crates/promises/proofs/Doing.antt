@@ -23,23 +23,15 @@ use Rattle.objects_writer.specs.Writing.{tlv}
 use Rattle.objects_writer.specs.Fitting.{object_length}
 use Rattle.objects_writer.proofs.Fitting.{object_length-tlv, length-tlv-part}
 use Rattle.objects_templates.specs.OffsetObject.{read_offset_object}
-use Rattle.objects_templates.specs.declared.OffsetObject.{OffsetObject}
-use Rattle.objects_templates.specs.declared.OffsetObject.TheVariants.{Offset, NoOffset}
 use Rattle.objects_templates.proofs.Offsets.{offset_sound}
 use Rattle.objects_templates.specs.Update.{read_update}
-use Rattle.objects_templates.specs.declared.Update.{Update}
-use Rattle.objects_templates.specs.declared.Update.TheVariants.{Writing, NoUpdate}
 use Rattle.objects_templates.specs.Reference.{read_reference, reference_data}
-use Rattle.objects_templates.specs.declared.Span.{Span}
-use Rattle.objects_templates.specs.declared.Reference.{Reference}
-use Rattle.objects_templates.specs.declared.Reference.TheVariants.{Refers, NoReference}
+use Rattle.objects_templates.specs.Span.{Span}
 use Rattle.objects_templates.proofs.References.{reference_sound}
 use Rattle.objects_templates.specs.declared.Writes.{Writes}
 use Rattle.objects_templates.proofs.Updates.{update_sound}
 use Rattle.store_files.specs.Files.{file_bytes}
 use Rattle.store_files.specs.Master.{aid_of}
-use Rattle.store_files.specs.declared.AidName.{AidName}
-use Rattle.store_files.specs.declared.AidName.TheVariants.{Application, OtherAid}
 use Rattle.store_files.specs.declared.Transparent.{Transparent}
 use Rattle.store_files.specs.declared.File.{File}
 use Rattle.store_files.specs.declared.File.TheVariants.{RecordFile, TransparentFile}
@@ -48,16 +40,7 @@ use Rattle.machine_session.specs.Session.{placed, set_file}
 use Rattle.machine_session.specs.Resolve.{resolve_record, resolve_transparent, resolve_biometrics, resolve_file}
 use Rattle.machine_session.specs.declared.Access.{Access}
 use Rattle.machine_session.specs.declared.Access.TheVariants.{Append}
-use Rattle.machine_session.specs.declared.ResolvedRecord.{ResolvedRecord}
-use Rattle.machine_session.specs.declared.ResolvedRecord.TheVariants.{RecordStop, RecordAt}
-use Rattle.machine_session.specs.declared.ResolvedTransparent.{ResolvedTransparent}
-use Rattle.machine_session.specs.declared.ResolvedTransparent.TheVariants.{TransparentStop, TransparentAt}
-use Rattle.machine_session.specs.declared.ResolvedBiometrics.{ResolvedBiometrics}
-use Rattle.machine_session.specs.declared.ResolvedBiometrics.TheVariants.{BiometricsStop, BiometricsAt}
-use Rattle.machine_session.specs.declared.ResolvedFile.{ResolvedFile}
-use Rattle.machine_session.specs.declared.ResolvedFile.TheVariants.{FileStop, FileAt}
 use Rattle.machine_session.specs.declared.Session.{Session}
-use Rattle.machine_session.specs.declared.Verdict.TheVariants.{Accepted}
 use Rattle.machine_session.specs.declared.Place.TheVariants.{OnRecord}
 use Rattle.machine_session.specs.declared.Named.{Named}
 use Rattle.machine_session.specs.declared.Named.TheVariants.{Current, Short, Id}
@@ -65,7 +48,7 @@ use Rattle.machine_session.proofs.Steps.{in_order-each, RecordResolved, Transpar
 use Rattle.machine_apdu.specs.declared.Frame.{Frame}
 use Rattle.machine_action.specs.Tests.{lc_only, p1p2, id_in, or_current, id_or_current, on_record, on_transparent, on_biometrics, on_file}
 use Rattle.machine_action.specs.declared.Action.{Action}
-use Rattle.machine_action.specs.declared.Action.TheVariants.{Status, SelectFile, ReadBinary, UpdateBinary, Activate, AppendRecord, ReadBinaryOdd}
+use Rattle.machine_action.specs.declared.Action.TheVariants.{SelectFile, ReadBinary, UpdateBinary, Activate, AppendRecord, ReadBinaryOdd}
 use Rattle.machine_select.specs.Select.{select_aid, select_master, select_file, select_by, one_of_three, length_fits, select}
 use Rattle.machine_select.specs.Fmm.{fmm_on, fmm_named, fmm_file, fmm_by, fmm}
 use Rattle.machine_binary.specs.ReadBinary.{names_current, read_named, read_offset, read_binary_on, read_binary}
@@ -89,6 +72,7 @@ use Rattle.promises.proofs.Whole.{pair_facts, data_length, data_bytes, class_dec
 use Rattle.promises.specs.Files.{Inspected, WritesTo}
 use Rattle.promises.proofs.Naming.{record_meant, record_permitted, p2-meant, biometrics-writes, transparent_inspected, file_inspected}
 use Rattle.promises.proofs.Growing.{accepts, write_accepted, write_changes}
+use Rattle.std.specs.Prelude.{Option, Some, None, Result, Ok, Err}
 
 only_changed : (img new : List ℕ) (k : ℕ) → Changed img new k → Only k img new
 only_changed img new k c = record { well = c.well; size = c.size; files = c.same-files; others = c.others }
@@ -97,40 +81,40 @@ only_changed img new k c = record { well = c.well; size = c.size; files = c.same
 
 module _ (img : List ℕ) (s : Session) (d buf : List ℕ) (R : Outcome → Type 0) where
   -- a decision whose outcome, where it answers 9000, is as R says
-  abbrev pub Came : Action → Type 0
+  abbrev pub Came : Result Action ℕ → Type 0
   Came x = (done x img s d buf).answer.status ≡ 0x9000 → R (done x img s d buf)
 
-  word-came : (w : ℕ) → ltb w 0x9000 ≡ true → Came (Status w)
+  word-came : (w : ℕ) → ltb w 0x9000 ≡ true → Came (Err w)
   unfolding done says
   word-came w h e = absurd (omega (arith, ltb-true w 0x9000 h, e))
 
-  on-record : (x : Access) (n : Named) (go : Rule → Action) → ((r : Rule) → resolve_record img s x n ≡ RecordAt r → RecordResolved img s x r → Came (go r)) → Came (on_record (resolve_record img s x n) go)
+  on-record : (x : Access) (n : Named) (go : Rule → Result Action ℕ) → ((r : Rule) → resolve_record img s x n ≡ Ok r → RecordResolved img s x r → Came (go r)) → Came (on_record (resolve_record img s x n) go)
   on-record x n go h = by (resolve_record img s x n) refl (resolve_record-well_formed img s x n)
     where
-      by : (a : ResolvedRecord) → resolve_record img s x n ≡ a → RecordOk img s x a → Came (on_record a go)
-      by (RecordStop w) e o = word-came w o
-      by (RecordAt r) e o = h r e o
+      by : (a : Result Rule ℕ) → resolve_record img s x n ≡ a → RecordOk img s x a → Came (on_record a go)
+      by (Err w) e o = word-came w o
+      by (Ok r) e o = h r e o
 
-  on-transparent : (n : Named) (go : Transparent → Action) → ((t : Transparent) → resolve_transparent img s n ≡ TransparentAt t → TransparentResolved img s t → Came (go t)) → Came (on_transparent (resolve_transparent img s n) go)
+  on-transparent : (n : Named) (go : Transparent → Result Action ℕ) → ((t : Transparent) → resolve_transparent img s n ≡ Ok t → TransparentResolved img s t → Came (go t)) → Came (on_transparent (resolve_transparent img s n) go)
   on-transparent n go h = by (resolve_transparent img s n) refl (resolve_transparent-well_formed img s n)
     where
-      by : (a : ResolvedTransparent) → resolve_transparent img s n ≡ a → TransparentOk img s a → Came (on_transparent a go)
-      by (TransparentStop w) e o = word-came w o
-      by (TransparentAt t) e o = h t e o
+      by : (a : Result Transparent ℕ) → resolve_transparent img s n ≡ a → TransparentOk img s a → Came (on_transparent a go)
+      by (Err w) e o = word-came w o
+      by (Ok t) e o = h t e o
 
-  on-biometrics : (n : Named) (go : ℕ → Action) → ((k : ℕ) → resolve_biometrics img s n ≡ BiometricsAt k → BiometricsResolved img s k → Came (go k)) → Came (on_biometrics (resolve_biometrics img s n) go)
+  on-biometrics : (n : Named) (go : ℕ → Result Action ℕ) → ((k : ℕ) → resolve_biometrics img s n ≡ Ok k → BiometricsResolved img s k → Came (go k)) → Came (on_biometrics (resolve_biometrics img s n) go)
   on-biometrics n go h = by (resolve_biometrics img s n) refl (resolve_biometrics-well_formed img s n)
     where
-      by : (a : ResolvedBiometrics) → resolve_biometrics img s n ≡ a → BiometricsOk img s a → Came (on_biometrics a go)
-      by (BiometricsStop w) e o = word-came w o
-      by (BiometricsAt k) e o = h k e o
+      by : (a : Result ℕ ℕ) → resolve_biometrics img s n ≡ a → BiometricsOk img s a → Came (on_biometrics a go)
+      by (Err w) e o = word-came w o
+      by (Ok k) e o = h k e o
 
-  on-file : (n : Named) (go : File → Action) → ((g : File) → resolve_file img s n ≡ FileAt g → FileResolved img s g → Came (go g)) → Came (on_file (resolve_file img s n) go)
+  on-file : (n : Named) (go : File → Result Action ℕ) → ((g : File) → resolve_file img s n ≡ Ok g → FileResolved img s g → Came (go g)) → Came (on_file (resolve_file img s n) go)
   on-file n go h = by (resolve_file img s n) refl (resolve_file-well_formed img s n)
     where
-      by : (a : ResolvedFile) → resolve_file img s n ≡ a → AnyOk img s a → Came (on_file a go)
-      by (FileStop w) e o = word-came w o
-      by (FileAt g) e o = h g e o
+      by : (a : Result File ℕ) → resolve_file img s n ≡ a → AnyOk img s a → Came (on_file a go)
+      by (Err w) e o = word-came w o
+      by (Ok g) e o = h g e o
 
 -- ---- a command answered 9000
 
@@ -144,15 +128,15 @@ module _ (img : List ℕ) (s : Session) (ch : Chain) (cmd buf : List ℕ) (f : F
   ins : f.header.ins ≡ i
   ins = (pair_facts f c i b.pair).1
 
-  is-accepted : verdict_on img s ch (length buf) ≡ Accepted
+  is-accepted : verdict_on img s ch (length buf) ≡ (Ok tt)
   is-accepted = status_accepted img s ch cmd buf b.status
 
   well : well_formed img ≡ true
   well = (accepted_facts img s ch (length buf) is-accepted).0
 
-  came : (R : Outcome → Type 0) (x : Action) → decide img s ch cmd ≡ x → Came img s d buf R x → R (step img s ch cmd buf)
+  came : (R : Outcome → Type 0) (x : Result Action ℕ) → decide img s ch cmd ≡ x → Came img s d buf R x → R (step img s ch cmd buf)
   came R x e h =
-      let u : step img s ch cmd buf ≡ done x img s d buf = step_accepted img s ch cmd buf is-accepted ∙ ap (λ (y : Action). done y img s d buf) e in
+      let u : step img s ch cmd buf ≡ done x img s d buf = step_accepted img s ch cmd buf is-accepted ∙ ap (λ (y : Result Action ℕ). done y img s d buf) e in
       subst R (sym u) (h (sym (ap (λ (o : Outcome). o.answer.status) u) ∙ b.status))
 
   by-class : eqb (c / 16 % 2) 1 ≡ false → (eqb c 0x00 || eqb c 0x80) ≡ true → is_command c i ≡ true → decide img s ch cmd ≡ by_class img s f d
@@ -169,10 +153,10 @@ append-done img s ch cmd buf f b = came img s ch cmd buf f b R (append_record im
     led : decide img s ch cmd ≡ append_record img s f (data_of ch cmd)
     led = by-class img s ch cmd buf f b refl refl (unfold is_command in refl) ∙ (unfold by_class by_ins in simp (cla img s ch cmd buf f b, ins img s ch cmd buf f b))
 
-    word : (w : ℕ) → ltb w 0x9000 ≡ true → Came img s (data_of ch cmd) buf R (Status w)
+    word : (w : ℕ) → ltb w 0x9000 ≡ true → Came img s (data_of ch cmd) buf R (Err w)
     word = word-came img s (data_of ch cmd) buf R
 
-    append : (r : Rule) → resolve_record img s Append (or_current (f.header.p2 / 8)) ≡ RecordAt r → Appends img s (length (data_of ch cmd)) r → Came img s (data_of ch cmd) buf R (AppendRecord r)
+    append : (r : Rule) → resolve_record img s Append (or_current (f.header.p2 / 8)) ≡ Ok r → Appends img s (length (data_of ch cmd)) r → Came img s (data_of ch cmd) buf R (Ok (AppendRecord r))
     append r e a z =
         unfold done says records_of in
         let o = well img s ch cmd buf f b in
@@ -186,7 +170,7 @@ append-done img s ch cmd buf f b = came img s ch cmd buf f b R (append_record im
           current = ap (λ (n : ℕ). placed s (OnRecord r.id (n + 1))) (sym (records-count (body img r.kind)));
         }
 
-    on : (r : Rule) → resolve_record img s Append (or_current (f.header.p2 / 8)) ≡ RecordAt r → RecordResolved img s Append r → lc_only f ≡ true
+    on : (r : Rule) → resolve_record img s Append (or_current (f.header.p2 / 8)) ≡ Ok r → RecordResolved img s Append r → lc_only f ≡ true
         → Came img s (data_of ch cmd) buf R (append_on img (length (data_of ch cmd)) r)
     on r e o l =
         unfold append_on in
@@ -224,11 +208,11 @@ update-done img s ch cmd buf f so y b = came img s ch cmd buf f b R (update_bina
     led : decide img s ch cmd ≡ update_binary img s f (data_of ch cmd)
     led = by-class img s ch cmd buf f b refl refl (unfold is_command in refl) ∙ (unfold by_class by_ins in simp (cla img s ch cmd buf f b, ins img s ch cmd buf f b))
 
-    word : (w : ℕ) → ltb w 0x9000 ≡ true → Came img s (data_of ch cmd) buf R (Status w)
+    word : (w : ℕ) → ltb w 0x9000 ≡ true → Came img s (data_of ch cmd) buf R (Err w)
     word = word-came img s (data_of ch cmd) buf R
 
-    write : (w : Writes) → read_update (data_of ch cmd) ≡ Writing w → (n : ℕ) → resolve_biometrics img s (id_or_current (p1p2 f)) ≡ BiometricsAt n
-        → Writable img s n w → Came img s (data_of ch cmd) buf R (UpdateBinary n w)
+    write : (w : Writes) → read_update (data_of ch cmd) ≡ Some w → (n : ℕ) → resolve_biometrics img s (id_or_current (p1p2 f)) ≡ Ok n
+        → Writable img s n w → Came img s (data_of ch cmd) buf R (Ok (UpdateBinary n w))
     write w v n e a z =
         unfold done says in
         let x = update_sound (data_of ch cmd) w v (data_bytes ch cmd f b.shape so y) in
@@ -257,16 +241,16 @@ update-done img s ch cmd buf f so y b = came img s ch cmd buf f b R (update_bina
           current = refl;
         }
 
-    on : (w : Writes) → read_update (data_of ch cmd) ≡ Writing w → (n : ℕ) → resolve_biometrics img s (id_or_current (p1p2 f)) ≡ BiometricsAt n → BiometricsResolved img s n
+    on : (w : Writes) → read_update (data_of ch cmd) ≡ Some w → (n : ℕ) → resolve_biometrics img s (id_or_current (p1p2 f)) ≡ Ok n → BiometricsResolved img s n
         → Came img s (data_of ch cmd) buf R (update_on img w n)
     on w v n e r =
         unfold update_on in
         in_order-each (Came img s (data_of ch cmd) buf R) _ _ (word 0x6A80 refl, (word 0x6A84 refl, tt))
         (λ p. write w v n e (record { file = r; behind = p.0; room = p.1.0 }))
 
-    fields : (u : Update) → read_update (data_of ch cmd) ≡ u → Came img s (data_of ch cmd) buf R (update_by img s (p1p2 f) u)
-    fields NoUpdate v = word 0x6A80 refl
-    fields (Writing w) v = on-biometrics img s (data_of ch cmd) buf R (id_or_current (p1p2 f)) (update_on img w) (on w v)
+    fields : (u : Option Writes) → read_update (data_of ch cmd) ≡ u → Came img s (data_of ch cmd) buf R (update_by img s (p1p2 f) u)
+    fields None v = word 0x6A80 refl
+    fields (Some w) v = on-biometrics img s (data_of ch cmd) buf R (id_or_current (p1p2 f)) (update_on img w) (on w v)
 
     tests : Came img s (data_of ch cmd) buf R (update_binary img s f (data_of ch cmd))
     tests =
@@ -287,10 +271,10 @@ activate-done img s ch cmd buf f b = came img s ch cmd buf f b R (activate_file 
     led : decide img s ch cmd ≡ activate_file img s f
     led = by-class img s ch cmd buf f b refl refl (unfold is_command in refl) ∙ (unfold by_class by_ins in simp (cla img s ch cmd buf f b, ins img s ch cmd buf f b))
 
-    word : (w : ℕ) → ltb w 0x9000 ≡ true → Came img s (data_of ch cmd) buf R (Status w)
+    word : (w : ℕ) → ltb w 0x9000 ≡ true → Came img s (data_of ch cmd) buf R (Err w)
     word = word-came img s (data_of ch cmd) buf R
 
-    on : (n : ℕ) → resolve_biometrics img s Current ≡ BiometricsAt n → BiometricsResolved img s n → Came img s (data_of ch cmd) buf R (Activate n)
+    on : (n : ℕ) → resolve_biometrics img s Current ≡ Ok n → BiometricsResolved img s n → Came img s (data_of ch cmd) buf R (Ok (Activate n))
     on n e r t =
         unfold done says in
         let k : ℕ = biometrics_kind n in
@@ -311,7 +295,7 @@ activate-done img s ch cmd buf f b = came img s ch cmd buf f b R (activate_file 
     tests =
         unfold activate_file in
         in_order-each (Came img s (data_of ch cmd) buf R) _ _ (word 0x6A86 refl, (word 0x6700 refl, tt))
-        (λ p. on-biometrics img s (data_of ch cmd) buf R Current Activate on)
+        (λ p. on-biometrics img s (data_of ch cmd) buf R Current (λ (n : ℕ). Ok (Activate n)) on)
 
 -- ---- READ BINARY
 
@@ -331,11 +315,11 @@ read_done img s ch cmd buf f b = came img s ch cmd buf f b R (read_binary img s 
     R : Outcome → Type 0
     R = Fetched img s f
 
-    word : (w : ℕ) → ltb w 0x9000 ≡ true → Came img s (data_of ch cmd) buf R (Status w)
+    word : (w : ℕ) → ltb w 0x9000 ≡ true → Came img s (data_of ch cmd) buf R (Err w)
     word = word-came img s (data_of ch cmd) buf R
 
-    read : (t : Transparent) → resolve_transparent img s (read_named f) ≡ TransparentAt t → TransparentResolved img s t → read_offset f < length (file_bytes img t)
-        → Came img s (data_of ch cmd) buf R (ReadBinary t (read_offset f) (min f.ne (min 2048 (length (file_bytes img t) - read_offset f))))
+    read : (t : Transparent) → resolve_transparent img s (read_named f) ≡ Ok t → TransparentResolved img s t → read_offset f < length (file_bytes img t)
+        → Came img s (data_of ch cmd) buf R (Ok (ReadBinary t (read_offset f) (min f.ne (min 2048 (length (file_bytes img t) - read_offset f)))))
     read t e r h z =
         unfold done says in
         let n : ℕ = min f.ne (min 2048 (length (file_bytes img t) - read_offset f)) in
@@ -352,7 +336,7 @@ read_done img s ch cmd buf f b = came img s ch cmd buf f b R (read_binary img s 
           current = refl;
         }
 
-    on : (t : Transparent) → resolve_transparent img s (read_named f) ≡ TransparentAt t → TransparentResolved img s t → Came img s (data_of ch cmd) buf R (read_binary_on img (read_offset f) f.ne t)
+    on : (t : Transparent) → resolve_transparent img s (read_named f) ≡ Ok t → TransparentResolved img s t → Came img s (data_of ch cmd) buf R (read_binary_on img (read_offset f) f.ne t)
     on t e r =
         unfold read_binary_on in
         in_order-each (Came img s (data_of ch cmd) buf R) _ _ (word 0x6B00 refl, tt) (λ p. read t e r (ltb-true (read_offset f) (length (file_bytes img t)) p.0))
@@ -371,11 +355,11 @@ read_odd_done img s ch cmd buf f so y b = came img s ch cmd buf f b R (read_bina
     R : Outcome → Type 0
     R = FetchedOdd img s ch cmd f
 
-    word : (w : ℕ) → ltb w 0x9000 ≡ true → Came img s (data_of ch cmd) buf R (Status w)
+    word : (w : ℕ) → ltb w 0x9000 ≡ true → Came img s (data_of ch cmd) buf R (Err w)
     word = word-came img s (data_of ch cmd) buf R
 
-    read : (a : ℕ) → read_offset_object (data_of ch cmd) ≡ Offset a → (t : Transparent) → resolve_transparent img s (id_or_current (p1p2 f)) ≡ TransparentAt t → TransparentResolved img s t
-        → (n : ℕ) → OddBounds img a f.ne t n → Came img s (data_of ch cmd) buf R (ReadBinaryOdd t a n)
+    read : (a : ℕ) → read_offset_object (data_of ch cmd) ≡ Some a → (t : Transparent) → resolve_transparent img s (id_or_current (p1p2 f)) ≡ Ok t → TransparentResolved img s t
+        → (n : ℕ) → OddBounds img a f.ne t n → Came img s (data_of ch cmd) buf R (Ok (ReadBinaryOdd t a n))
     read a v t e r n k z =
         unfold done says in
         let x = offset_sound (data_of ch cmd) a v (data_bytes ch cmd f b.shape so y) in
@@ -403,16 +387,16 @@ read_odd_done img s ch cmd buf f so y b = came img s ch cmd buf f b R (read_bina
           current = refl;
         }
 
-    on : (a : ℕ) → read_offset_object (data_of ch cmd) ≡ Offset a → (t : Transparent) → resolve_transparent img s (id_or_current (p1p2 f)) ≡ TransparentAt t → TransparentResolved img s t
+    on : (a : ℕ) → read_offset_object (data_of ch cmd) ≡ Some a → (t : Transparent) → resolve_transparent img s (id_or_current (p1p2 f)) ≡ Ok t → TransparentResolved img s t
         → Came img s (data_of ch cmd) buf R (read_odd_on img a f.ne t)
     on a v t e r =
         unfold read_odd_on in
         in_order-each (Came img s (data_of ch cmd) buf R) _ _ (word 0x6B00 refl, (word 0x6700 refl, tt))
         (λ p. read a v t e r (odd_count img a f.ne t) (odd_bounds img a f.ne t p.0 p.1.0))
 
-    data-field : (x : OffsetObject) → read_offset_object (data_of ch cmd) ≡ x → Came img s (data_of ch cmd) buf R (read_odd_by img s f x)
-    data-field NoOffset v = word 0x6A80 refl
-    data-field (Offset a) v = on-transparent img s (data_of ch cmd) buf R (id_or_current (p1p2 f)) (read_odd_on img a f.ne) (on a v)
+    data-field : (x : Option ℕ) → read_offset_object (data_of ch cmd) ≡ x → Came img s (data_of ch cmd) buf R (read_odd_by img s f x)
+    data-field None v = word 0x6A80 refl
+    data-field (Some a) v = on-transparent img s (data_of ch cmd) buf R (id_or_current (p1p2 f)) (read_odd_on img a f.ne) (on a v)
 
     tests : Came img s (data_of ch cmd) buf R (read_binary_odd img s f (data_of ch cmd))
     tests =
@@ -433,7 +417,7 @@ select-done img s ch cmd buf f b = came img s ch cmd buf f b R (select img s f (
     led : decide img s ch cmd ≡ select img s f (data_of ch cmd)
     led = by-class img s ch cmd buf f b refl refl (unfold is_command in refl) ∙ (unfold by_class by_ins in simp (cla img s ch cmd buf f b, ins img s ch cmd buf f b))
 
-    word : (w : ℕ) → ltb w 0x9000 ≡ true → Came img s (data_of ch cmd) buf R (Status w)
+    word : (w : ℕ) → ltb w 0x9000 ≡ true → Came img s (data_of ch cmd) buf R (Err w)
     word = word-came img s (data_of ch cmd) buf R
 
     -- where P1 is not 04 the data has two bytes
@@ -442,9 +426,8 @@ select-done img s ch cmd buf f b = came img s ch cmd buf f b R (select img s f (
         unfold length_fits in
         data_length ch cmd f b.shape ∙ eqb-true f.lc 2 (simp (ne_eqb p1 0x04 n) at h)
 
-    aid : p1 ≡ 0x04 → (a : AidName) → aid_of (data_of ch cmd) ≡ a → Came img s (data_of ch cmd) buf R (select_aid img s a)
-    aid e OtherAid q = word 0x6A82 refl
-    aid e (Application a) q =
+    known_aid : p1 ≡ 0x04 → (a : ℕ) → aid_of (data_of ch cmd) ≡ Some a → Came img s (data_of ch cmd) buf R (select_aid img s (Some a))
+    known_aid e a q =
         unfold done says in
         in_order-each (Came img s (data_of ch cmd) buf R) _ _ (word 0x6A82 refl, (word 0x6982 refl, tt))
         (λ p z. record {
@@ -456,10 +439,14 @@ select-done img s ch cmd buf f b = came img s ch cmd buf f b R (select img s f (
           nothing_told = refl;
         })
 
+    aid : p1 ≡ 0x04 → (a : Option ℕ) → aid_of (data_of ch cmd) ≡ a → Came img s (data_of ch cmd) buf R (select_aid img s a)
+    aid e None q = word 0x6A82 refl
+    aid e (Some a) q = known_aid e a q
+
     file : p1 ≡ 0x02 → length (data_of ch cmd) ≡ 2 → Came img s (data_of ch cmd) buf R (select_file img s (id_in (data_of ch cmd)))
     file e l =
         unfold select_file done says in
-        on-file img s (data_of ch cmd) buf R (Id (id_in (data_of ch cmd))) SelectFile
+        on-file img s (data_of ch cmd) buf R (Id (id_in (data_of ch cmd))) (λ (f : File). Ok (SelectFile f))
         (λ g q r z. record {
           p1_known = Memᴰ.tail (Memᴰ.head e);
           by_aid = λ y. absurd (omega (arith, e, y));
@@ -514,7 +501,7 @@ fmm-done img s ch cmd buf f so y b = came img s ch cmd buf f b R (fmm img s f (d
     led : decide img s ch cmd ≡ fmm img s f (data_of ch cmd)
     led = by-class img s ch cmd buf f b refl refl (unfold is_command in refl) ∙ (unfold by_class by_own_ins in simp (cla img s ch cmd buf f b, ins img s ch cmd buf f b))
 
-    word : (w : ℕ) → ltb w 0x9000 ≡ true → Came img s (data_of ch cmd) buf R (Status w)
+    word : (w : ℕ) → ltb w 0x9000 ≡ true → Came img s (data_of ch cmd) buf R (Err w)
     word = word-came img s (data_of ch cmd) buf R
 
     report : (n : Named) → (p1 ≡ 0 → n ≡ Current) → ((p1 ≡ 0 → ⊥) → Referred (data_of ch cmd) n) → Came img s (data_of ch cmd) buf R (fmm_named img s p2 n)
@@ -538,7 +525,7 @@ fmm-done img s ch cmd buf f so y b = came img s ch cmd buf f b R (fmm img s f (d
     value : Span → List ℕ
     value q = part (data_of ch cmd) q.at q.len
 
-    refers : (q : Span) → read_reference (data_of ch cmd) ≡ Refers q → (n : Named) → (length (value q) ≡ 1 → (get_or (value q) 0 0 % 8 ≡ 0) × (n ≡ Short (get_or (value q) 0 0 / 8)))
+    refers : (q : Span) → read_reference (data_of ch cmd) ≡ Some q → (n : Named) → (length (value q) ≡ 1 → (get_or (value q) 0 0 % 8 ≡ 0) × (n ≡ Short (get_or (value q) 0 0 / 8)))
         → (length (value q) ≡ 2 → n ≡ Id (id_in (value q))) → Referred (data_of ch cmd) n
     refers q e n c d =
         let x = reference_sound (data_of ch cmd) q e (data_bytes ch cmd f b.shape so y) in
@@ -551,7 +538,7 @@ fmm-done img s ch cmd buf f so y b = came img s ch cmd buf f b R (fmm img s f (d
           by_file_id = d;
         }
 
-    by-reference : (q : Span) → read_reference (data_of ch cmd) ≡ Refers q → (p1 ≡ 0 → ⊥) → Came img s (data_of ch cmd) buf R (fmm_file img s p2 (value q))
+    by-reference : (q : Span) → read_reference (data_of ch cmd) ≡ Some q → (p1 ≡ 0 → ⊥) → Came img s (data_of ch cmd) buf R (fmm_file img s p2 (value q))
     by-reference q e n =
         unfold fmm_file in
         let v = value q in
@@ -561,9 +548,9 @@ fmm-done img s ch cmd buf f so y b = came img s ch cmd buf f b R (fmm img s f (d
         (λ _. refers q e (Short (get_or v 0 0 / 8)) (λ _. (eqb-true (get_or v 0 0 % 8) 0 p.0, refl)) (λ t. absurd (omega (arith, t, eqb-true (length v) 1 l))))))
         (λ l. report (Id (id_in v)) (λ z. absurd (n z)) (λ _. refers q e (Id (id_in v)) (λ t. absurd (eqb-false (length v) 1 l t)) (λ _. refl)))
 
-    data-field : (r : Reference) → read_reference (data_of ch cmd) ≡ r → (p1 ≡ 0 → ⊥) → Came img s (data_of ch cmd) buf R (fmm_by img s p2 (data_of ch cmd) r)
-    data-field NoReference e n = word 0x6A80 refl
-    data-field (Refers q) e n = by-reference q e n
+    data-field : (r : Option Span) → read_reference (data_of ch cmd) ≡ r → (p1 ≡ 0 → ⊥) → Came img s (data_of ch cmd) buf R (fmm_by img s p2 (data_of ch cmd) r)
+    data-field None e n = word 0x6A80 refl
+    data-field (Some q) e n = by-reference q e n
 
     tests : Came img s (data_of ch cmd) buf R (fmm img s f (data_of ch cmd))
     tests =

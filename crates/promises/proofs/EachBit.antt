@@ -34,7 +34,6 @@ use Rattle.machine_session.specs.Resolve.{file_meant, is_certificates, may_recor
 use Rattle.machine_session.specs.Session.{application_fits, place_fits, session_fits}
 use Rattle.machine_session.specs.Verdict.{verdict}
 use Rattle.machine_session.specs.declared.Session.{Session}
-use Rattle.machine_session.specs.declared.Verdict.TheVariants.{Accepted}
 use Rattle.machine_action.specs.Tests.{lc_only, be16, or_current}
 use Rattle.machine_record.specs.AppendRecord.{append_on, append_record}
 use Rattle.machine_select.specs.Select.{select_file, select_by, one_of_three, length_fits, select}
@@ -47,6 +46,7 @@ use Rattle.machine.specs.Step.{verdict_on, step}
 use Rattle.promises.specs.FewerRights.{with_byte, without_bit, just_entered, EachBitCounts}
 use Rattle.promises.proofs.Answering.{step_accepted}
 use Rattle.promises.proofs.Fewer.{fewer_rights}
+use Rattle.std.specs.Prelude.{Ok}
 
 -- ---- one bit alone, and every bit but one
 
@@ -336,7 +336,7 @@ module _ (i b : ℕ) (n : i < 20) (h : 1 ≤ b) (m : b ≤ bits_of i) where
     word_of : (q : Rights) → session_fits img (session_for i q) ≡ true → status_of q ≡ word_for buf i b q
     unfolding word_for verdict all_of
     word_of q f =
-        let v : verdict_on img (session_for i q) NoChain (length buf) ≡ Accepted = rw (f, t.well, le-ltb (length buf) 2050 l) refl in
+        let v : verdict_on img (session_for i q) NoChain (length buf) ≡ (Ok tt) = rw (f, t.well, le-ltb (length buf) 2050 l) refl in
         ap (λ (o : Outcome). o.answer.status) (step_accepted img (session_for i q) NoChain cmd buf v)
 
     with_bit : bit (rights_byte r i) b ≡ true → status_of r ≡ 0x9000

@@ -23,11 +23,9 @@ use Rattle.machine_session.specs.Session.{placed, is_current, set_file, session_
 use Rattle.machine_session.specs.Verdict.{verdict_number, verdict}
 use Rattle.machine_session.specs.declared.Session.{Session}
 use Rattle.machine_session.specs.declared.Place.TheVariants.{OnFile}
-use Rattle.machine_session.specs.declared.Verdict.{Verdict}
-use Rattle.machine_session.specs.declared.Verdict.TheVariants.{Accepted, Refused}
 use Rattle.machine_session.proofs.Fewer.{SameOrStop, Weaker}
 use Rattle.machine_action.specs.declared.Action.{Action}
-use Rattle.machine_action.specs.declared.Action.TheVariants.{Status, SelectApplication, SelectFile, ReadBinary, UpdateBinary, Activate, AppendRecord, ReadRecord, SearchRecord, Report, ReadBinaryOdd}
+use Rattle.machine_action.specs.declared.Action.TheVariants.{SelectApplication, SelectFile, ReadBinary, UpdateBinary, Activate, AppendRecord, ReadRecord, SearchRecord, Report, ReadBinaryOdd}
 use Rattle.machine_record.specs.SearchRecord.{search_status}
 use Rattle.machine_chain.specs.Chain.{Chain}
 use Rattle.machine_chain.proofs.Laws.{put-start}
@@ -40,6 +38,8 @@ use Rattle.machine.specs.Step.{verdict_on, step_by, step, chain_after_by, chain_
 use Rattle.promises.specs.FewerRights.{with_rights, outcome_with, only6982, Gets6982, FewerRights}
 use Rattle.promises.proofs.Answering.{accepted_room, step-verdict}
 use Rattle.promises.proofs.Keeping.{step_kept}
+use Rattle.std.specs.Prelude.{Result, Ok, Err}
+use Rattle.machine_session.specs.declared.Refusal.{Refusal}
 
 -- ---- what is done does not ask for rights
 
@@ -52,26 +52,26 @@ module _ (img : List ℕ) (s : Session) (few : Rights) (buf : List ℕ) where
       go true = refl
       go false = refl
 
-  done-with : (x : Action) (d : List ℕ) → done x img (with_rights s few) d buf ≡ outcome_with (done x img s d buf) few
+  done-with : (x : Result Action ℕ) (d : List ℕ) → done x img (with_rights s few) d buf ≡ outcome_with (done x img s d buf) few
   unfolding done searched says
-  done-with (Status w) d = refl
-  done-with (SelectApplication a) d = refl
-  done-with (SelectFile f) d = refl
-  done-with (ReadBinary t o n) d = rw (set-with (TransparentFile t)) refl
-  done-with (UpdateBinary n w) d = rw (set-with (TransparentFile (Biometrics n))) refl
-  done-with (Activate n) d = refl
-  done-with (AppendRecord r) d = refl
-  done-with (ReadRecord r a b) d = rw (set-with (RecordFile r)) refl
-  done-with (SearchRecord r q ne) d = by_cases (eqb (search_status (records_of img r.kind) d q ne) normal) (λ e. rw e refl) (λ e. rw e refl)
-  done-with (Report f p2) d = rw (set-with f) refl
-  done-with (ReadBinaryOdd t o n) d = rw (set-with (TransparentFile t)) refl
+  done-with (Err w) d = refl
+  done-with (Ok (SelectApplication a)) d = refl
+  done-with (Ok (SelectFile f)) d = refl
+  done-with (Ok (ReadBinary t o n)) d = rw (set-with (TransparentFile t)) refl
+  done-with (Ok (UpdateBinary n w)) d = rw (set-with (TransparentFile (Biometrics n))) refl
+  done-with (Ok (Activate n)) d = refl
+  done-with (Ok (AppendRecord r)) d = refl
+  done-with (Ok (ReadRecord r a b)) d = rw (set-with (RecordFile r)) refl
+  done-with (Ok (SearchRecord r q ne)) d = by_cases (eqb (search_status (records_of img r.kind) d q ne) normal) (λ e. rw e refl) (λ e. rw e refl)
+  done-with (Ok (Report f p2)) d = rw (set-with f) refl
+  done-with (Ok (ReadBinaryOdd t o n)) d = rw (set-with (TransparentFile t)) refl
 
 -- so a session keeps its rights: with these in their place it is itself
 module _ (img : List ℕ) (s : Session) (buf : List ℕ) where
-  step_by-rights : (v : Verdict) (ch : Chain) (cmd : List ℕ) → (step_by v img s ch cmd buf).answer.session.rights ≡ s.rights
+  step_by-rights : (v : Result (Unit {0}) Refusal) (ch : Chain) (cmd : List ℕ) → (step_by v img s ch cmd buf).answer.session.rights ≡ s.rights
   unfolding step_by
-  step_by-rights Accepted ch cmd = ap (λ (o : Outcome). o.answer.session.rights) (done-with img s s.rights buf (decide img s ch cmd) (data_of ch cmd))
-  step_by-rights (Refused r) ch cmd = refl
+  step_by-rights (Ok tt) ch cmd = ap (λ (o : Outcome). o.answer.session.rights) (done-with img s s.rights buf (decide img s ch cmd) (data_of ch cmd))
+  step_by-rights (Err r) ch cmd = refl
 
   pub step-rights : (ch : Chain) (cmd : List ℕ) → (step img s ch cmd buf).answer.session.rights ≡ s.rights
   unfolding step
@@ -85,7 +85,7 @@ module _ (img : List ℕ) (s : Session) (few : Rights) (ch : Chain) (n : ℕ) (h
 
   same-chain : (cmd : List ℕ) → chain_after img (with_rights s few) ch cmd n ≡ chain_after img s ch cmd n
   unfolding chain_after
-  same-chain cmd = ap (λ (v : Verdict). chain_after_by v ch cmd) same-verdict
+  same-chain cmd = ap (λ (v : Result (Unit {0}) Refusal). chain_after_by v ch cmd) same-verdict
 
 -- ---- the theorem
 
@@ -102,17 +102,17 @@ module _ (img : List ℕ) (s : Session) (few : Rights) (ch : Chain) (cmd buf : L
   t = with_rights s few
 
   -- by the verdict, which is the same
-  by-verdict : (v : Verdict) → (v ≡ Accepted → 2050 ≤ length buf)
+  by-verdict : (v : Result (Unit {0}) Refusal) → (v ≡ (Ok tt) → 2050 ≤ length buf)
       → (step_by v img t ch cmd buf ≡ outcome_with (step_by v img s ch cmd buf) few) ⊎ (step_by v img t ch cmd buf ≡ only6982 img t buf)
   unfolding step_by
-  by-verdict (Refused r) l = inl refl
-  by-verdict Accepted l = go (decide_fewer img s t (weaker s few u) ch cmd)
+  by-verdict (Err r) l = inl refl
+  by-verdict (Ok tt) l = go (decide_fewer img s t (weaker s few u) ch cmd)
     where
-      go : SameOrStop (Status not_permitted) (decide img s ch cmd) (decide img t ch cmd)
+      go : SameOrStop (Err not_permitted) (decide img s ch cmd) (decide img t ch cmd)
           → (done (decide img t ch cmd) img t (data_of ch cmd) buf ≡ outcome_with (done (decide img s ch cmd) img s (data_of ch cmd) buf) few)
           ⊎ (done (decide img t ch cmd) img t (data_of ch cmd) buf ≡ only6982 img t buf)
-      go (inl e) = inl (ap (λ (x : Action). done x img t (data_of ch cmd) buf) e ∙ done-with img s few buf (decide img s ch cmd) (data_of ch cmd))
-      go (inr e) = inr (ap (λ (x : Action). done x img t (data_of ch cmd) buf) e ∙ unfold done in word-told img t buf (l refl))
+      go (inl e) = inl (ap (λ (x : Result Action ℕ). done x img t (data_of ch cmd) buf) e ∙ done-with img s few buf (decide img s ch cmd) (data_of ch cmd))
+      go (inr e) = inr (ap (λ (x : Result Action ℕ). done x img t (data_of ch cmd) buf) e ∙ unfold done in word-told img t buf (l refl))
 
 pub fewer_rights : FewerRights
 unfolding step
@@ -129,12 +129,12 @@ fewer_rights img s few ch cmd buf h k u =
     (by-verdict img s few ch cmd buf u (verdict_on img s ch (length buf)) (accepted_room img s ch buf))
   where
     same : step img (with_rights s few) ch cmd buf ≡ step_by (verdict_on img s ch (length buf)) img (with_rights s few) ch cmd buf
-    same = unfold step in ap (λ (v : Verdict). step_by v img (with_rights s few) ch cmd buf) (same-verdict img s few ch (length buf) h k)
+    same = unfold step in ap (λ (v : Result (Unit {0}) Refusal). step_by v img (with_rights s few) ch cmd buf) (same-verdict img s few ch (length buf) h k)
 
     word-apart : ◌≡◌ {A = ℕ} 0x6982 0x9000 → ⊥
     word-apart z = omega (arith, z)
 
 pub accepted_6982 : (img : List ℕ) (s : Session) (few : Rights) (ch : Chain) (cmd buf : List ℕ) → session_fits img s ≡ true → session_fits img (with_rights s few) ≡ true
-    → Gets6982 img s few ch cmd buf → verdict_on img s ch (length buf) ≡ Accepted
+    → Gets6982 img s few ch cmd buf → verdict_on img s ch (length buf) ≡ (Ok tt)
 accepted_6982 img s few ch cmd buf h k q =
     sym (same-verdict img s few ch (length buf) h k) ∙ sym (step-verdict img (with_rights s few) buf ch cmd) ∙ ap (λ (o : Outcome). o.answer.verdict) q.reply

@@ -16,7 +16,6 @@ use Rattle.machine_apdu.specs.Shape.{be16_at, or_most, header_of, framed, first_
 use Rattle.machine_session.specs.Session.{opened, session_fits}
 use Rattle.machine_session.specs.Verdict.{verdict_number}
 use Rattle.machine_session.specs.declared.Session.{Session}
-use Rattle.machine_session.specs.declared.Verdict.TheVariants.{Accepted}
 use Rattle.machine_chain.specs.Chain.{Chain, NoChain}
 use Rattle.machine_link.specs.Link.{chain_fits}
 use Rattle.machine_dispatch.specs.Decide.{decide}
@@ -31,11 +30,12 @@ use Rattle.promises.proofs.Keeping.{step_kept}
 use Rattle.promises.proofs.Growing.{call_grown}
 use Rattle.promises.proofs.Fitting.{answer-fits, opening-fits}
 use Rattle.promises.proofs.Fewer.{step-rights, fewer_rights, accepted_6982}
+use Rattle.std.specs.Prelude.{Ok}
 
 -- ---- the empty command
 
 -- it gets 6700, and so drops the chain and changes nothing else
-module _ (img : List ℕ) (s : Session) (ch : Chain) (buf : List ℕ) (v : verdict_on img s ch (length buf) ≡ Accepted) where
+module _ (img : List ℕ) (s : Session) (ch : Chain) (buf : List ℕ) (v : verdict_on img s ch (length buf) ≡ (Ok tt)) where
   blank-status : (step img s ch [] buf).answer.status ≡ 0x6700
   unfolding decide shape_of shapes first_shape framed header_of be16_at or_most done says
   blank-status = ap (λ (o : Outcome). o.answer.status) (step_accepted img s ch [] buf v)

@@ -21,8 +21,6 @@ use Rattle.machine_rights.proofs.Laws.{held-length}
 use Rattle.machine_session.specs.Session.{session_fits}
 use Rattle.machine_session.specs.Verdict.{verdict_number, verdict}
 use Rattle.machine_session.specs.declared.Session.{Session}
-use Rattle.machine_session.specs.declared.Verdict.{Verdict}
-use Rattle.machine_session.specs.declared.Verdict.TheVariants.{Accepted}
 use Rattle.machine_session_bytes.specs.Layout.{place_bytes, session_bytes, session_in}
 use Rattle.machine_chain.specs.Chain.{Chain, NoChain}
 use Rattle.machine_chain.specs.Layout.{no_chain_bytes, chain_bytes, is_chain, chain_in}
@@ -35,6 +33,8 @@ use Rattle.malquindo.specs.Face.{result_of, chain_part, is_session_c, chain_of_c
 use Rattle.promises.specs.FewerRights.{with_rights, SameReply, Gets6982, called_with, called6982, CFewerRights}
 use Rattle.promises.proofs.Fewer.{step-rights, same-verdict, fewer_rights, accepted_6982}
 use Rattle.promises.proofs.Linking.{behind_accepted, session-long, session_alike, place_alike, stored_front, chain_left, called-session, called-malformed}
+use Rattle.std.specs.Prelude.{Result, Ok}
+use Rattle.machine_session.specs.declared.Refusal.{Refusal}
 
 -- ---- 20 bytes of rights in front
 
@@ -160,7 +160,7 @@ module _ (img many few rest cmd buf : List ℕ) (h : length many ≡ 20) (k : le
       called-session img (few ++ rest) cmd buf (whole-behind many few rest h k ∙ y)
       ∙ ap₂ (λ (t : Session) (xs : List ℕ). called_by (take 25 (few ++ rest) ++ chain_into_by (verdict_on img t (chain_in xs) (length buf)) xs cmd) (step img t (chain_in xs) cmd buf))
       (session-with many few rest h k) (chain-behind many few rest h k)
-      ∙ ap (λ (v : Verdict). called_by (take 25 (few ++ rest) ++ chain_into_by v (chain_part (many ++ rest)) cmd) (step img (with_rights s (held few)) ch cmd buf))
+      ∙ ap (λ (v : Result (Unit {0}) Refusal). called_by (take 25 (few ++ rest) ++ chain_into_by v (chain_part (many ++ rest)) cmd) (step img (with_rights s (held few)) ch cmd buf))
       (same-verdict img s (held few) ch (length buf) f fits-with)
 
   same-called : is_session_c (many ++ rest) ≡ true → SameReply img s (held few) ch cmd buf → called img (few ++ rest) cmd buf ≡ called_with (called img (many ++ rest) cmd buf) few
@@ -178,10 +178,10 @@ module _ (img many few rest cmd buf : List ℕ) (h : length many ≡ 20) (k : le
   only-called y q =
       let t = with_rights s (held few) in
       let v = accepted_6982 img s (held few) ch cmd buf f fits-with q in
-      let w : verdict_on img t ch (length buf) ≡ Accepted = same-verdict img s (held few) ch (length buf) f fits-with ∙ v in
+      let w : verdict_on img t ch (length buf) ≡ (Ok tt) = same-verdict img s (held few) ch (length buf) f fits-with ∙ v in
       let n : chain_behind ch cmd ≡ NoChain = sym (behind_accepted img t ch cmd (length buf) w) ∙ q.chain in
       let e : back ≡ put (chain_part (few ++ rest)) 0 no_chain_bytes
-      = ap (λ (x : Verdict). chain_into_by x (chain_part (many ++ rest)) cmd) v
+      = ap (λ (x : Result (Unit {0}) Refusal). chain_into_by x (chain_part (many ++ rest)) cmd) v
       ∙ ap (λ (c : Chain). put (chain_part (many ++ rest)) 0 (chain_bytes c)) n
       ∙ ap (λ (xs : List ℕ). put xs 0 no_chain_bytes) (sym (chain-behind many few rest h k)) in
       second-called y

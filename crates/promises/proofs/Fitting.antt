@@ -16,8 +16,6 @@ use Rattle.store_records.specs.Body.{count}
 use Rattle.store_kinds.specs.Rules.{biometrics, rules, rule_of, all_rules, there, present_by, is_biometrics, biometrics_kind}
 use Rattle.store_kinds.specs.declared.rules.Key.TheVariants.{Kind, Id}
 use Rattle.store_kinds.specs.declared.rules.Rule.{Rule}
-use Rattle.store_kinds.specs.declared.rules.Ruled.{Ruled}
-use Rattle.store_kinds.specs.declared.rules.Ruled.TheVariants.{Is, Nothing}
 use Rattle.store_image.specs.Image.{has, present, body, well_formed, records_of, append_to}
 use Rattle.store_image.proofs.Laws.{biometrics_unruled, records-count, append-list}
 use Rattle.objects_templates.specs.declared.Search.{Search}
@@ -26,25 +24,19 @@ use Rattle.store_files.specs.Files.{ruled, biometrics_by_id, by_id, id_of}
 use Rattle.store_files.specs.declared.Transparent.TheVariants.{Biometrics}
 use Rattle.store_files.specs.declared.File.{File}
 use Rattle.store_files.specs.declared.File.TheVariants.{RecordFile, TransparentFile}
-use Rattle.store_files.specs.declared.Lookup.{Lookup}
-use Rattle.store_files.specs.declared.Lookup.TheVariants.{Known, NoFile}
 use Rattle.store_files.proofs.Meant.{LookupOk, by_id_well_formed}
 use Rattle.machine_session.specs.Session.{opened, placed, is_current, set_file, application_fits, is_known, is_record_of, record_fits, place_fits, session_fits}
 use Rattle.machine_session.specs.Verdict.{verdict, verdict_number}
 use Rattle.machine_session.specs.declared.Session.{Session}
-use Rattle.machine_session.specs.declared.Verdict.{Verdict}
-use Rattle.machine_session.specs.declared.Verdict.TheVariants.{Accepted, Refused}
 use Rattle.machine_session.specs.declared.Place.{Place}
 use Rattle.machine_session.specs.declared.Place.TheVariants.{Nowhere, OnFile, OnRecord}
 use Rattle.machine_session.proofs.Steps.{in_order-each, Resolved}
 use Rattle.machine_apdu.specs.Shape.{shape_of}
-use Rattle.machine_apdu.specs.declared.Apdu.{Apdu}
-use Rattle.machine_apdu.specs.declared.Apdu.TheVariants.{Bad, Good}
 use Rattle.machine_apdu.specs.declared.Frame.{Frame}
 use Rattle.machine_record.specs.SearchRecord.{text_in, search_hits, search_status}
 use Rattle.machine_dispatch.specs.Decide.{decide, data_by, data_of, chain_on, chain_by, chain_behind, whole_frame}
 use Rattle.machine_action.specs.declared.Action.{Action}
-use Rattle.machine_action.specs.declared.Action.TheVariants.{Status, SelectApplication, SelectFile, ReadBinary, UpdateBinary, Activate, AppendRecord, ReadRecord, SearchRecord, Report, ReadBinaryOdd}
+use Rattle.machine_action.specs.declared.Action.TheVariants.{SelectApplication, SelectFile, ReadBinary, UpdateBinary, Activate, AppendRecord, ReadRecord, SearchRecord, Report, ReadBinaryOdd}
 use Rattle.machine_dispatch.proofs.Allowing.{From, FromShape, decide-from, FromCourse}
 use Rattle.machine_reply_search.specs.Found.{matching, hits}
 use Rattle.machine_reply_search.proofs.Matching.{first_match, hits-first, none-hits}
@@ -58,11 +50,13 @@ use Rattle.machine_action.specs.Tests.{lc_only}
 use Rattle.machine_link.specs.Parameters.{parameters_fit}
 use Rattle.machine_link.specs.Link.{turn, chain_fits}
 use Rattle.machine_link.specs.declared.Course.{Course}
-use Rattle.machine_link.specs.declared.Course.TheVariants.{Stops, Extends, Goes}
+use Rattle.machine_link.specs.declared.Course.TheVariants.{Extends, Goes}
 use Rattle.machine_link.proofs.Turning.{Turned, joined, turn-told, extending_few}
 use Rattle.promises.specs.Calls.{Call, Command, after_call, after, history}
 use Rattle.promises.specs.Promises.{StaysAccepted, AnswerFits, OpeningFits}
 use Rattle.promises.proofs.Growing.{accepts, call_grown, calls_held}
+use Rattle.std.specs.Prelude.{Option, Some, None, Result, Ok, Err}
+use Rattle.machine_session.specs.declared.Refusal.{Refusal}
 
 -- ---- an image that has lost no file and no record
 
@@ -113,39 +107,39 @@ module _ {img new : List ℕ} (k : Keeps img new) where
   unfolding by_id
   same-file a i e = by_cases (eqb a 0) (λ y. simp y) (λ n. simp n (go (rule_of (Id a i)) (simp n at e)))
     where
-      go : (x : Ruled) → is_known (ruled img x (biometrics_by_id img a i)) ≡ true → ruled new x (biometrics_by_id new a i) ≡ ruled img x (biometrics_by_id img a i)
-      go (Is r) t =
+      go : (x : Option Rule) → is_known (ruled img x (biometrics_by_id img a i)) ≡ true → ruled new x (biometrics_by_id new a i) ≡ ruled img x (biometrics_by_id img a i)
+      go (Some r) t =
           by_cases (has img r.kind)
           (λ y. simp (y, k.files r.kind y))
           (λ n. false-true (simp n at t))
-      go Nothing t = same-biometrics a i t
+      go None t = same-biometrics a i t
 
   -- a record file's kind is no biometrics file's
-  no-biometrics : (r : Rule) → rule_of (Kind r.kind) ≡ Is r → is_biometrics r.kind ≡ false
+  no-biometrics : (r : Rule) → rule_of (Kind r.kind) ≡ Some r → is_biometrics r.kind ≡ false
   no-biometrics r e =
       by_cases (is_biometrics r.kind)
-      (λ b. absurd (let z : Nothing ≡ Is r = sym (biometrics_unruled r.kind b) ∙ e in
+      (λ b. absurd (let z : None ≡ Some r = sym (biometrics_unruled r.kind b) ∙ e in
       let y : ◌≡◌ {A = ℕ} 0 1 = cc in omega arith))
       (λ b. b)
 
-  same-record : (l : Lookup) (n : ℕ) → LookupOk img l → record_fits img l n ≡ true → record_fits new l n ≡ true
-  same-record NoFile n o e = e
-  same-record (Known (TransparentFile t)) n o e = e
-  same-record (Known (RecordFile r)) n o e =
+  same-record : (l : Option File) (n : ℕ) → LookupOk img l → record_fits img l n ≡ true → record_fits new l n ≡ true
+  same-record None n o e = e
+  same-record (Some (TransparentFile t)) n o e = e
+  same-record (Some (RecordFile r)) n o e =
       let h = all_of_facts (leb 1 n ∷ leb n (count (body img r.kind)) ∷ []) e in
       let c : n ≤ count (body new r.kind) = omega (arith, leb-true n _ h.1.0, k.counts r.kind (no-biometrics r o.by_kind)) in
       all_of_accepted _ (h.0, (le-leb _ _ c, tt))
 
-  record-known : (l : Lookup) (n : ℕ) → record_fits img l n ≡ true → is_known l ≡ true
-  record-known NoFile n e = e
-  record-known (Known f) n e = refl
+  record-known : (l : Option File) (n : ℕ) → record_fits img l n ≡ true → is_known l ≡ true
+  record-known None n e = e
+  record-known (Some f) n e = refl
 
   same_place : (a : ℕ) (p : Place) → place_fits img a p ≡ true → place_fits new a p ≡ true
   unfolding place_fits
   same_place a Nowhere e = e
   same_place a (OnFile i) e = ap is_known (same-file a i e) ∙ e
   same_place a (OnRecord i n) e =
-      ap (λ (l : Lookup). record_fits new l n) (same-file a i (record-known (by_id img a i) n e)) ∙ same-record (by_id img a i) n (by_id_well_formed img a i) e
+      ap (λ (l : Option File). record_fits new l n) (same-file a i (record-known (by_id img a i) n e)) ∙ same-record (by_id img a i) n (by_id_well_formed img a i) e
 
   fits_on : (s : Session) → session_fits img s ≡ true → session_fits new s ≡ true
   unfolding session_fits
@@ -168,9 +162,9 @@ module _ (img : List ℕ) (s : Session) (e : session_fits img s ≡ true) where
   unfolding set_file
   at_set f r = if_else_ind (λ (x : Session). session_fits img x ≡ true) (is_current s.place (id_of f)) (λ z. e) (λ z. at-file f r)
 
-  at-record : (r : Rule) (n : ℕ) → by_id img s.application r.id ≡ Known (RecordFile r) → is_record_of img r n ≡ true → session_fits img (placed s (OnRecord r.id n)) ≡ true
+  at-record : (r : Rule) (n : ℕ) → by_id img s.application r.id ≡ Some (RecordFile r) → is_record_of img r n ≡ true → session_fits img (placed s (OnRecord r.id n)) ≡ true
   unfolding place_fits
-  at-record r n o h = at_place (OnRecord r.id n) (ap (λ (l : Lookup). record_fits img l n) o ∙ h)
+  at-record r n o h = at_place (OnRecord r.id n) (ap (λ (l : Option File). record_fits img l n) o ∙ h)
 
   -- the first that a search names is a record of the file
   first-hit : (d : List ℕ) (r : Rule) (q : Search) → let H = search_hits (records_of img r.kind) d q in 1 ≤ length H → is_record_of img r (get_or H 0 0) ≡ true
@@ -208,16 +202,16 @@ module _ (img : List ℕ) (s : Session) (e : session_fits img s ≡ true) where
       (λ n. e)
 
 module _ (img : List ℕ) (s : Session) (ch : Chain) (cmd buf : List ℕ) (o : well_formed img ≡ true) (e : session_fits img s ≡ true) where
-  done-fits : (f : Frame) (x : Action) → let d = (so_far ch ++ part cmd f.from f.lc) in From img s (whole_frame ch f) d x → Keeps img (done x img s d buf).image
+  done-fits : (f : Frame) (x : Result Action ℕ) → let d = (so_far ch ++ part cmd f.from f.lc) in From img s (whole_frame ch f) d x → Keeps img (done x img s d buf).image
       → session_fits (done x img s d buf).image (done x img s d buf).answer.session ≡ true
   unfolding done says id_of
-  done-fits f (Status w) h k = e
-  done-fits f (SelectApplication a) h k = unfold session_fits place_fits in let w = all_of_facts _ e in all_of_accepted _ (h.1, (refl, (w.1.1.0, tt)))
-  done-fits f (SelectFile g) h k = at-file img s e g h.1.file
-  done-fits f (ReadBinary t a n) h k = at_set img s e (TransparentFile t) h.1.file
-  done-fits f (UpdateBinary n w) h k = fits_on k _ (at_set img s e (TransparentFile (Biometrics n)) h.1.file.file)
-  done-fits f (Activate n) h k = fits_on k s e
-  done-fits f (AppendRecord r) h k =
+  done-fits f (Err w) h k = e
+  done-fits f (Ok (SelectApplication a)) h k = unfold session_fits place_fits in let w = all_of_facts _ e in all_of_accepted _ (h.1, (refl, (w.1.1.0, tt)))
+  done-fits f (Ok (SelectFile g)) h k = at-file img s e g h.1.file
+  done-fits f (Ok (ReadBinary t a n)) h k = at_set img s e (TransparentFile t) h.1.file
+  done-fits f (Ok (UpdateBinary n w)) h k = fits_on k _ (at_set img s e (TransparentFile (Biometrics n)) h.1.file.file)
+  done-fits f (Ok (Activate n)) h k = fits_on k s e
+  done-fits f (Ok (AppendRecord r)) h k =
       let d = so_far ch ++ part cmd f.from f.lc in
       let l : length (records_of (append_to img r.kind d) r.kind) ≡ length (records_of img r.kind ++ (d ∷ [])) = ap length (append-list img r.kind r d o (accepts img s ch cmd buf o d r h.2)) in
       let m = length-append (records_of img r.kind) (d ∷ []) in
@@ -227,37 +221,37 @@ module _ (img : List ℕ) (s : Session) (ch : Chain) (cmd buf : List ℕ) (o : w
         le-leb 1 (count (body img r.kind) + 1) (omega arith),
         (le-leb (count (body img r.kind) + 1) (count (body (append_to img r.kind d) r.kind)) (omega (arith, l, m, list_count img r.kind, list_count (append_to img r.kind d) r.kind)), tt),
       ))
-  done-fits f (ReadRecord r a b) h k = at_set img s e (RecordFile r) h.file.file
-  done-fits f (SearchRecord r q ne) h k = fits_on k _ (searched-fits img s e _ buf r q ne h.file.file)
-  done-fits f (Report g p2) h k = at_set img s e g h.1.file
-  done-fits f (ReadBinaryOdd t a n) h k = at_set img s e (TransparentFile t) h.1.file
+  done-fits f (Ok (ReadRecord r a b)) h k = at_set img s e (RecordFile r) h.file.file
+  done-fits f (Ok (SearchRecord r q ne)) h k = fits_on k _ (searched-fits img s e _ buf r q ne h.file.file)
+  done-fits f (Ok (Report g p2)) h k = at_set img s e g h.1.file
+  done-fits f (Ok (ReadBinaryOdd t a n)) h k = at_set img s e (TransparentFile t) h.1.file
 
-  abbrev Fits : List ℕ → Action → Type 0
+  abbrev Fits : List ℕ → Result Action ℕ → Type 0
   Fits d x = session_fits (done x img s d buf).image (done x img s d buf).answer.session ≡ true
 
-  worded-fits : (d : List ℕ) (w : ℕ) (x : Action) → x ≡ Status w → Fits d x
+  worded-fits : (d : List ℕ) (w : ℕ) (x : Result Action ℕ) → x ≡ Err w → Fits d x
   unfolding done says
-  worded-fits d w x h = ap (λ (y : Action). session_fits (done y img s d buf).image (done y img s d buf).answer.session) h ∙ e
+  worded-fits d w x h = ap (λ (y : Result Action ℕ). session_fits (done y img s d buf).image (done y img s d buf).answer.session) h ∙ e
 
-  course-fits : (f : Frame) (k : Course) (x : Action) → let d = so_far ch ++ part cmd f.from f.lc in FromCourse k img s (whole_frame ch f) d x → Keeps img (done x img s d buf).image → Fits d x
-  course-fits f (Stops w) x h k = worded-fits _ w x h.0
-  course-fits f Extends x h k = worded-fits _ normal x h
-  course-fits f Goes x h k = done-fits f x h k
+  course-fits : (f : Frame) (k : Result Course ℕ) (x : Result Action ℕ) → let d = so_far ch ++ part cmd f.from f.lc in FromCourse k img s (whole_frame ch f) d x → Keeps img (done x img s d buf).image → Fits d x
+  course-fits f (Err w) x h k = worded-fits _ w x h.0
+  course-fits f (Ok Extends) x h k = worded-fits _ normal x h
+  course-fits f (Ok Goes) x h k = done-fits f x h k
 
-  shape-fits : (a : Apdu) (x : Action) → FromShape img s ch cmd a x → Keeps img (done x img s (data_by ch cmd a) buf).image → Fits (data_by ch cmd a) x
-  shape-fits Bad x h k = worded-fits [] wrong_length x h
-  shape-fits (Good f) x h k = course-fits f (turn ch f) x h k
+  shape-fits : (a : Option Frame) (x : Result Action ℕ) → FromShape img s ch cmd a x → Keeps img (done x img s (data_by ch cmd a) buf).image → Fits (data_by ch cmd a) x
+  shape-fits None x h k = worded-fits [] wrong_length x h
+  shape-fits (Some f) x h k = course-fits f (turn ch f) x h k
 
-  step_by-fits : (x : Verdict) → Keeps img (step_by x img s ch cmd buf).image → session_fits (step_by x img s ch cmd buf).image (step_by x img s ch cmd buf).answer.session ≡ true
+  step_by-fits : (x : Result (Unit {0}) Refusal) → Keeps img (step_by x img s ch cmd buf).image → session_fits (step_by x img s ch cmd buf).image (step_by x img s ch cmd buf).answer.session ≡ true
   unfolding step_by data_of
-  step_by-fits Accepted k = shape-fits (shape_of cmd) (decide img s ch cmd) (decide-from img s ch cmd) k
-  step_by-fits (Refused r) k = e
+  step_by-fits (Ok tt) k = shape-fits (shape_of cmd) (decide img s ch cmd) (decide-from img s ch cmd) k
+  step_by-fits (Err r) k = e
 
 -- the chain that a command leaves is one that links can have left
-turned_fits : (ch : Chain) (f : Frame) (d : List ℕ) (k : Course) → length d ≡ f.lc → Turned ch f k → chain_fits (chain_on k ch f d) ≡ true
-turned_fits ch f d (Stops w) l t = refl
-turned_fits ch f d Goes l t = refl
-turned_fits ch f d Extends l (joined x) =
+turned_fits : (ch : Chain) (f : Frame) (d : List ℕ) (k : Result Course ℕ) → length d ≡ f.lc → Turned ch f k → chain_fits (chain_on k ch f d) ≡ true
+turned_fits ch f d (Err w) l t = refl
+turned_fits ch f d (Ok Goes) l t = refl
+turned_fits ch f d (Ok Extends) l (joined x) =
     unfold lc_only in
     let n = length-append (so_far ch) d in
     let m = leb-true 1 f.lc (all_of_facts (leb 1 f.lc ∷ eqb f.le 0 ∷ []) x.some).0 in
@@ -269,14 +263,14 @@ pub chain_fits_lem : (img : List ℕ) (s : Session) (ch : Chain) (cmd : List ℕ
 unfolding chain_after chain_behind
 chain_fits_lem img s ch cmd n e = by-verdict (verdict_on img s ch n)
   where
-    by_shape : (a : Apdu) → shape_of cmd ≡ a → chain_fits (chain_by ch cmd a) ≡ true
-    by_shape Bad z = refl
-    by_shape (Good f) z =
+    by_shape : (a : Option Frame) → shape_of cmd ≡ a → chain_fits (chain_by ch cmd a) ≡ true
+    by_shape None z = refl
+    by_shape (Some f) z =
         turned_fits ch f (part cmd f.from f.lc) (turn ch f) (length_part cmd f.from f.lc (shape_facts cmd (shape_of cmd) f refl z).inside) (turn-told ch f)
 
-    by-verdict : (v : Verdict) → chain_fits (chain_after_by v ch cmd) ≡ true
-    by-verdict Accepted = by_shape (shape_of cmd) refl
-    by-verdict (Refused r) = e
+    by-verdict : (v : Result (Unit {0}) Refusal) → chain_fits (chain_after_by v ch cmd) ≡ true
+    by-verdict (Ok tt) = by_shape (shape_of cmd) refl
+    by-verdict (Err r) = e
 
 pub answer-fits : AnswerFits
 unfolding step after_call

@@ -23,18 +23,13 @@ use Rattle.objects_templates.specs.declared.Search.{Search}
 use Rattle.machine_record.specs.SearchRecord.{search_status}
 use Rattle.machine_session.specs.Resolve.{resolve_record}
 use Rattle.machine_session.specs.declared.Session.{Session}
-use Rattle.machine_session.specs.declared.Verdict.{Verdict}
-use Rattle.machine_session.specs.declared.Verdict.TheVariants.{Accepted, Refused}
 use Rattle.machine_session.specs.declared.Access.TheVariants.{Append}
-use Rattle.machine_session.specs.declared.ResolvedRecord.TheVariants.{RecordAt}
 use Rattle.machine_apdu.specs.Shape.{shape_of}
-use Rattle.machine_apdu.specs.declared.Apdu.{Apdu}
-use Rattle.machine_apdu.specs.declared.Apdu.TheVariants.{Bad, Good}
 use Rattle.machine_apdu.specs.declared.Frame.{Frame}
 use Rattle.machine_action.specs.Tests.{or_current}
 use Rattle.machine_dispatch.specs.Decide.{decide, data_by, data_of, whole_frame}
 use Rattle.machine_action.specs.declared.Action.{Action}
-use Rattle.machine_action.specs.declared.Action.TheVariants.{Status, SelectApplication, SelectFile, ReadBinary, UpdateBinary, Activate, AppendRecord, ReadRecord, SearchRecord, Report, ReadBinaryOdd}
+use Rattle.machine_action.specs.declared.Action.TheVariants.{SelectApplication, SelectFile, ReadBinary, UpdateBinary, Activate, AppendRecord, ReadRecord, SearchRecord, Report, ReadBinaryOdd}
 use Rattle.machine_dispatch.proofs.Allowing.{Pair, Appends, Writable, From, FromShape, decide-from, FromCourse}
 use Rattle.machine_answer.specs.Outcome.{Outcome, says}
 use Rattle.machine.specs.Effects.{searched, done}
@@ -44,18 +39,19 @@ use Rattle.machine_session.specs.Verdict.{verdict}
 use Rattle.store_cut.specs.declared.Writing.TheVariants.{Record, State}
 use Rattle.machine_cut.specs.Cutting.{storing, cut_stores, cut_image, cut_by, cut}
 use Rattle.store_move.specs.Moving.{move_card, move_card_into}
-use Rattle.store_move.specs.declared.Moved.{Moved}
-use Rattle.store_move.specs.declared.Moved.TheVariants.{Image, Refused as MoveRefused}
 use Rattle.machine_apdu.specs.Status.{normal, wrong_length}
 use Rattle.machine_link.specs.Link.{is_link, turn}
 use Rattle.machine_link.specs.declared.Course.{Course}
-use Rattle.machine_link.specs.declared.Course.TheVariants.{Stops, Extends, Goes}
+use Rattle.machine_link.specs.declared.Course.TheVariants.{Extends, Goes}
 use Rattle.machine_link.proofs.Turning.{Turned, joined, turn-told}
 use Rattle.promises.specs.Calls.{Call, Open, Command, Move, Cut, image_after_move, after_call, after, is_pair, added_by, added, additions, history}
 use Rattle.promises.specs.Files.{is_meant_kind}
 use Rattle.promises.specs.Promises.{Holds, NumberKept}
 use Rattle.promises.proofs.Naming.{record_meant, record_listed, p2-meant, kind-meant}
 use Rattle.promises.proofs.Moving.{move_done}
+use Rattle.std.specs.Prelude.{Option, Some, None, Result, Ok, Err}
+use Rattle.store_move.specs.declared.MoveRefusal.{MoveRefusal}
+use Rattle.machine_session.specs.declared.Refusal.{Refusal}
 
 -- an image that has lost no file, in which each record file has some records more
 pub record Grown (img new : List ℕ) (more : ℕ → List (List ℕ)) : Type 0 where
@@ -88,22 +84,22 @@ module _ (img : List ℕ) (s : Session) (ch : Chain) (cmd : List ℕ) (f : Frame
   abbrev tests : ℕ → List Bool
   tests k = is_pair f 0x00 0xE2 ∷ eqb w 0x9000 ∷ is_meant_kind s (f.header.p2 / 8) k ∷ []
 
-  none : (k : ℕ) → (all_of (tests k) ≡ true → ⊥) → added_by k s ch cmd w (Good f) ≡ []
+  none : (k : ℕ) → (all_of (tests k) ≡ true → ⊥) → added_by k s ch cmd w (Some f) ≡ []
   none k h = if_else_ind (λ (l : List (List ℕ)). l ≡ []) (all_of (tests k)) (λ e. absurd (h e)) (λ e. refl)
 
   -- nothing by another command, and nothing by a status other than 9000
-  by-pair : (c i : ℕ) → Pair f c i → all_of (eqb c 0x00 ∷ eqb i 0xE2 ∷ []) ≡ false → (k : ℕ) → added_by k s ch cmd w (Good f) ≡ []
+  by-pair : (c i : ℕ) → Pair f c i → all_of (eqb c 0x00 ∷ eqb i 0xE2 ∷ []) ≡ false → (k : ℕ) → added_by k s ch cmd w (Some f) ≡ []
   unfolding is_pair
   by-pair c i p e k =
       none k (λ h. false-true (sym e
       ∙ sym (ap₂ (λ (x y : ℕ). all_of (eqb x 0x00 ∷ eqb y 0xE2 ∷ [])) (eqb-true f.header.cla c p.0) (eqb-true f.header.ins i p.1))
       ∙ (all_of_facts (tests k) h).0))
 
-  by-status : ltb w 0x9000 ≡ true → (k : ℕ) → added_by k s ch cmd w (Good f) ≡ []
+  by-status : ltb w 0x9000 ≡ true → (k : ℕ) → added_by k s ch cmd w (Some f) ≡ []
   by-status e k = none k (λ h. absurd (omega (arith, ltb-true w 0x9000 e, eqb-true w 0x9000 (all_of_facts (tests k) h).1.0)))
 
   -- a link but the last has another CLA
-  by-link : is_link f.header ≡ true → (k : ℕ) → added_by k s ch cmd w (Good f) ≡ []
+  by-link : is_link f.header ≡ true → (k : ℕ) → added_by k s ch cmd w (Some f) ≡ []
   unfolding is_link is_pair
   by-link e k =
       none k
@@ -112,24 +108,24 @@ module _ (img : List ℕ) (s : Session) (ch : Chain) (cmd : List ℕ) (f : Frame
       false-true (sym (ap (λ (x : ℕ). eqb (x / 16 % 2) 1) c) ∙ e))
 
   -- its data, to the file that P2 means
-  module _ (r : Rule) (p : Pair f 0x00 0xE2) (e : resolve_record img s Append (or_current (f.header.p2 / 8)) ≡ RecordAt r) (is : eqb w 0x9000 ≡ true) where
+  module _ (r : Rule) (p : Pair f 0x00 0xE2) (e : resolve_record img s Append (or_current (f.header.p2 / 8)) ≡ Ok r) (is : eqb w 0x9000 ≡ true) where
     of-kind : (k : ℕ) → is_meant_kind s (f.header.p2 / 8) k ≡ eqb r.kind k
     of-kind =
         kind-meant s (f.header.p2 / 8) r (record_listed img s Append (or_current (f.header.p2 / 8)) r e)
         (p2-meant s (f.header.p2 / 8) (RecordFile r) ∙ record_meant img s Append (or_current (f.header.p2 / 8)) r e)
 
-    to-file : added_by r.kind s ch cmd w (Good f) ≡ (so_far ch ++ part cmd f.from f.lc) ∷ []
+    to-file : added_by r.kind s ch cmd w (Some f) ≡ (so_far ch ++ part cmd f.from f.lc) ∷ []
     to-file =
         let t : all_of (tests r.kind) ≡ true = all_of_accepted (tests r.kind) (unfold is_pair in all_of_accepted _ (p.0, (p.1, tt)), (is, (of-kind r.kind ∙ eq-eqb r.kind r.kind refl, tt))) in
         ap (λ (b : Bool). if_else b ((so_far ch ++ part cmd f.from f.lc) ∷ []) []) t
 
-    to-another : (k : ℕ) → (k ≡ r.kind → ⊥) → added_by k s ch cmd w (Good f) ≡ []
+    to-another : (k : ℕ) → (k ≡ r.kind → ⊥) → added_by k s ch cmd w (Some f) ≡ []
     to-another k n = none k (λ h. n (sym (eqb-true r.kind k (sym (of-kind k) ∙ (all_of_facts (tests k) h).1.1.0))))
 
 -- a refusal has status 0, and adds nothing
-pub refused_none : (img : List ℕ) (s : Session) (ch : Chain) (cmd : List ℕ) (a : Apdu) (k : ℕ) → added_by k s ch cmd 0 a ≡ []
-refused_none img s ch cmd Bad k = refl
-refused_none img s ch cmd (Good f) k = by-status img s ch cmd f 0 refl k
+pub refused_none : (img : List ℕ) (s : Session) (ch : Chain) (cmd : List ℕ) (a : Option Frame) (k : ℕ) → added_by k s ch cmd 0 a ≡ []
+refused_none img s ch cmd None k = refl
+refused_none img s ch cmd (Some f) k = by-status img s ch cmd f 0 refl k
 
 -- ---- an accepted command
 
@@ -146,8 +142,8 @@ module _ (img : List ℕ) (s : Session) (ch : Chain) (cmd buf : List ℕ) (o : w
         room = a.room;
       }
 
-  appends-grown : (f : Frame) (r : Rule) → From img s (whole_frame ch f) (so_far ch ++ part cmd f.from f.lc) (AppendRecord r)
-      → Grown img (append_to img r.kind (so_far ch ++ part cmd f.from f.lc)) (λ k. added_by k s ch cmd 0x9000 (Good f))
+  appends-grown : (f : Frame) (r : Rule) → From img s (whole_frame ch f) (so_far ch ++ part cmd f.from f.lc) (Ok (AppendRecord r))
+      → Grown img (append_to img r.kind (so_far ch ++ part cmd f.from f.lc)) (λ k. added_by k s ch cmd 0x9000 (Some f))
   appends-grown f r h =
       record { well = c.well; files = λ k h. c.same-files k ∙ h; records = λ k b. by_cases (eqb k r.kind) (λ e. here k (eqb-true k r.kind e)) (λ e. there k (eqb-false k r.kind e)) }
     where
@@ -160,12 +156,12 @@ module _ (img : List ℕ) (s : Session) (ch : Chain) (cmd buf : List ℕ) (o : w
       c : Changed img (append_to img r.kind d) r.kind
       c = append_changes img r.kind r d o a
 
-      here : (k : ℕ) → k ≡ r.kind → records_of (append_to img r.kind d) k ≡ records_of img k ++ added_by k s ch cmd 0x9000 (Good f)
+      here : (k : ℕ) → k ≡ r.kind → records_of (append_to img r.kind d) k ≡ records_of img k ++ added_by k s ch cmd 0x9000 (Some f)
       here k e =
-          subst (λ (j : ℕ). records_of (append_to img r.kind d) j ≡ records_of img j ++ added_by j s ch cmd 0x9000 (Good f)) (sym e)
+          subst (λ (j : ℕ). records_of (append_to img r.kind d) j ≡ records_of img j ++ added_by j s ch cmd 0x9000 (Some f)) (sym e)
           (append-list img r.kind r d o a ∙ ap (λ (l : List (List ℕ)). records_of img r.kind ++ l) (sym (to-file img s ch cmd f 0x9000 r h.0 h.1 refl)))
 
-      there : (k : ℕ) → (k ≡ r.kind → ⊥) → records_of (append_to img r.kind d) k ≡ records_of img k ++ added_by k s ch cmd 0x9000 (Good f)
+      there : (k : ℕ) → (k ≡ r.kind → ⊥) → records_of (append_to img r.kind d) k ≡ records_of img k ++ added_by k s ch cmd 0x9000 (Some f)
       there k n =
           records-kept img (append_to img r.kind d) r.kind c k n
           ∙ sym (append-nil (records_of img k))
@@ -194,56 +190,56 @@ module _ (img : List ℕ) (s : Session) (ch : Chain) (cmd buf : List ℕ) (o : w
         let i = a.file.file.ok in
         update_changes img k o i.kind i.stands w.offset (part d w.bytes.at w.bytes.len) write_accepted
 
-  done-grown : (f : Frame) (x : Action) → From img s (whole_frame ch f) (so_far ch ++ part cmd f.from f.lc) x
-      → let u = done x img s (so_far ch ++ part cmd f.from f.lc) buf in Grown img u.image (λ k. added_by k s ch cmd u.answer.status (Good f))
+  done-grown : (f : Frame) (x : Result Action ℕ) → From img s (whole_frame ch f) (so_far ch ++ part cmd f.from f.lc) x
+      → let u = done x img s (so_far ch ++ part cmd f.from f.lc) buf in Grown img u.image (λ k. added_by k s ch cmd u.answer.status (Some f))
   unfolding done says all_of
-  done-grown f (Status w) h = grown-none img o refl (by-status img s ch cmd f w h)
-  done-grown f (SelectApplication a) h = grown-none img o refl (by-pair img s ch cmd f 0x9000 0x00 0xA4 h.0 refl)
-  done-grown f (SelectFile g) h = grown-none img o refl (by-pair img s ch cmd f 0x9000 0x00 0xA4 h.0 refl)
-  done-grown f (ReadBinary t a n) h = grown-none img o refl (by-pair img s ch cmd f 0x9000 0x00 0xB0 h.0 refl)
-  done-grown f (UpdateBinary n w) h =
+  done-grown f (Err w) h = grown-none img o refl (by-status img s ch cmd f w h)
+  done-grown f (Ok (SelectApplication a)) h = grown-none img o refl (by-pair img s ch cmd f 0x9000 0x00 0xA4 h.0 refl)
+  done-grown f (Ok (SelectFile g)) h = grown-none img o refl (by-pair img s ch cmd f 0x9000 0x00 0xA4 h.0 refl)
+  done-grown f (Ok (ReadBinary t a n)) h = grown-none img o refl (by-pair img s ch cmd f 0x9000 0x00 0xB0 h.0 refl)
+  done-grown f (Ok (UpdateBinary n w)) h =
       grown-changed img o _ (biometrics_kind n) h.1.file.file.ok.kind (write_changes n w _ h.1) (by-pair img s ch cmd f 0x9000 0x00 0xD7 h.0 refl)
-  done-grown f (Activate n) h =
+  done-grown f (Ok (Activate n)) h =
       let i = h.1.file.ok in
       grown-changed img o _ (biometrics_kind n) i.kind (activate_changes img (biometrics_kind n) o i.kind i.stands) (by-pair img s ch cmd f 0x9000 0x00 0x44 h.0 refl)
-  done-grown f (AppendRecord r) h = appends-grown f r h
-  done-grown f (ReadRecord r a b) h = grown-none img o refl (by-pair img s ch cmd f 0x9000 0x00 0xB2 h.pair refl)
-  done-grown f (SearchRecord r q ne) h = grown-none img o (searched-image _ r q ne) (by-pair img s ch cmd f (searched img s (so_far ch ++ part cmd f.from f.lc) buf r q ne).answer.status 0x00 0xA2 h.pair refl)
-  done-grown f (Report g p2) h = grown-none img o refl (by-pair img s ch cmd f 0x9000 0x80 0x5E h.0 refl)
-  done-grown f (ReadBinaryOdd t a n) h = grown-none img o refl (by-pair img s ch cmd f 0x9000 0x00 0xB1 h.0 refl)
+  done-grown f (Ok (AppendRecord r)) h = appends-grown f r h
+  done-grown f (Ok (ReadRecord r a b)) h = grown-none img o refl (by-pair img s ch cmd f 0x9000 0x00 0xB2 h.pair refl)
+  done-grown f (Ok (SearchRecord r q ne)) h = grown-none img o (searched-image _ r q ne) (by-pair img s ch cmd f (searched img s (so_far ch ++ part cmd f.from f.lc) buf r q ne).answer.status 0x00 0xA2 h.pair refl)
+  done-grown f (Ok (Report g p2)) h = grown-none img o refl (by-pair img s ch cmd f 0x9000 0x80 0x5E h.0 refl)
+  done-grown f (Ok (ReadBinaryOdd t a n)) h = grown-none img o refl (by-pair img s ch cmd f 0x9000 0x00 0xB1 h.0 refl)
 
-  course-grown : (f : Frame) (k : Course) (x : Action) → let d = so_far ch ++ part cmd f.from f.lc in Turned ch f k → FromCourse k img s (whole_frame ch f) d x
-      → let u = done x img s d buf in Grown img u.image (λ j. added_by j s ch cmd u.answer.status (Good f))
+  course-grown : (f : Frame) (k : Result Course ℕ) (x : Result Action ℕ) → let d = so_far ch ++ part cmd f.from f.lc in Turned ch f k → FromCourse k img s (whole_frame ch f) d x
+      → let u = done x img s d buf in Grown img u.image (λ j. added_by j s ch cmd u.answer.status (Some f))
   unfolding done says
-  course-grown f (Stops w) x t h =
+  course-grown f (Err w) x t h =
       let d = so_far ch ++ part cmd f.from f.lc in
-      subst (λ (y : Action). let u = done y img s d buf in Grown img u.image (λ j. added_by j s ch cmd u.answer.status (Good f))) (sym h.0)
+      subst (λ (y : Result Action ℕ). let u = done y img s d buf in Grown img u.image (λ j. added_by j s ch cmd u.answer.status (Some f))) (sym h.0)
       (grown-none img o refl (by-status img s ch cmd f w h.1))
-  course-grown f Extends x (joined t) h =
+  course-grown f (Ok Extends) x (joined t) h =
       let d = so_far ch ++ part cmd f.from f.lc in
-      subst (λ (y : Action). let u = done y img s d buf in Grown img u.image (λ j. added_by j s ch cmd u.answer.status (Good f))) (sym h)
+      subst (λ (y : Result Action ℕ). let u = done y img s d buf in Grown img u.image (λ j. added_by j s ch cmd u.answer.status (Some f))) (sym h)
       (grown-none img o refl (by-link img s ch cmd f 0x9000 t.link))
-  course-grown f Goes x t h = done-grown f x h
+  course-grown f (Ok Goes) x t h = done-grown f x h
 
-  shape-grown : (a : Apdu) (x : Action) → FromShape img s ch cmd a x
+  shape-grown : (a : Option Frame) (x : Result Action ℕ) → FromShape img s ch cmd a x
       → let u = done x img s (data_by ch cmd a) buf in Grown img u.image (λ k. added_by k s ch cmd u.answer.status a)
   unfolding done says
-  shape-grown Bad x h = grown-none img o (ap (λ (y : Action). (done y img s [] buf).image) h) (λ k. refl)
-  shape-grown (Good f) x h = course-grown f (turn ch f) x (turn-told ch f) h
+  shape-grown None x h = grown-none img o (ap (λ (y : Result Action ℕ). (done y img s [] buf).image) h) (λ k. refl)
+  shape-grown (Some f) x h = course-grown f (turn ch f) x (turn-told ch f) h
 
-  step_by-grown : (x : Verdict) → let u = step_by x img s ch cmd buf in Grown img u.image (λ k. added_by k s ch cmd u.answer.status (shape_of cmd))
+  step_by-grown : (x : Result (Unit {0}) Refusal) → let u = step_by x img s ch cmd buf in Grown img u.image (λ k. added_by k s ch cmd u.answer.status (shape_of cmd))
   unfolding step_by data_of
-  step_by-grown Accepted = shape-grown (shape_of cmd) (decide img s ch cmd) (decide-from img s ch cmd)
-  step_by-grown (Refused r) = grown-none img o refl (refused_none img s ch cmd (shape_of cmd))
+  step_by-grown (Ok tt) = shape-grown (shape_of cmd) (decide img s ch cmd) (decide-from img s ch cmd)
+  step_by-grown (Err r) = grown-none img o refl (refused_none img s ch cmd (shape_of cmd))
 
 -- ---- a move
 
 move_grown : (img list t : List ℕ) → well_formed img ≡ true → Grown img (image_after_move (move_card img list (length t)) (move_card_into img list t) img) (λ k. [])
 move_grown img list t o = go (move_card img list (length t)) refl
   where
-    go : (m : Moved) → move_card img list (length t) ≡ m → Grown img (image_after_move m (move_card_into img list t) img) (λ k. [])
-    go (MoveRefused w) e = grown-none img o refl (λ k. refl)
-    go (Image n) e =
+    go : (m : Result ℕ MoveRefusal) → move_card img list (length t) ≡ m → Grown img (image_after_move m (move_card_into img list t) img) (λ k. [])
+    go (Err w) e = grown-none img o refl (λ k. refl)
+    go (Ok n) e =
         let c = move_done img list t n e in
         record { well = c.well; files = c.files; records = λ k b. c.records k b ∙ sym (append-nil (records_of img k)) }
 
@@ -259,35 +255,35 @@ grown_as {img} e n g =
 
 module _ (img : List ℕ) (s : Session) (ch : Chain) (cmd : List ℕ) (n : ℕ) (o : well_formed img ≡ true) where
   -- what is counted of a cut that has m stores, where the command has the shape a
-  counted : ℕ → Apdu → ℕ → List (List ℕ)
+  counted : ℕ → Option Frame → ℕ → List (List ℕ)
   counted m a k = if_else (all_of (leb 1 m ∷ leb m n ∷ [])) (added_by k s ch cmd 0x9000 a) []
 
   -- nothing where there are none, where the command adds nothing, and where the last is not made
-  counted_none : (a : Apdu) (k : ℕ) → counted 0 a k ≡ []
+  counted_none : (a : Option Frame) (k : ℕ) → counted 0 a k ≡ []
   unfolding counted all_of
   counted_none a k = refl
 
-  counted-other : (m : ℕ) (a : Apdu) (k : ℕ) → added_by k s ch cmd 0x9000 a ≡ [] → counted m a k ≡ []
+  counted-other : (m : ℕ) (a : Option Frame) (k : ℕ) → added_by k s ch cmd 0x9000 a ≡ [] → counted m a k ≡ []
   unfolding counted
   counted-other m a k e = if_else_ind (λ (l : List (List ℕ)). l ≡ []) (all_of (leb 1 m ∷ leb m n ∷ [])) (λ t. e) (λ t. refl)
 
-  counted-less : (m : ℕ) (a : Apdu) (k : ℕ) → n < m → counted m a k ≡ []
+  counted-less : (m : ℕ) (a : Option Frame) (k : ℕ) → n < m → counted m a k ≡ []
   unfolding counted
   counted-less m a k h =
       if_else_ind (λ (l : List (List ℕ)). l ≡ []) (all_of (leb 1 m ∷ leb m n ∷ []))
       (λ t. absurd (omega (arith, h, leb-true m n (all_of_facts _ t).1.0)))
       (λ t. refl)
 
-  counted-all : (m : ℕ) (a : Apdu) (k : ℕ) → 1 ≤ m → m ≤ n → counted m a k ≡ added_by k s ch cmd 0x9000 a
+  counted-all : (m : ℕ) (a : Option Frame) (k : ℕ) → 1 ≤ m → m ≤ n → counted m a k ≡ added_by k s ch cmd 0x9000 a
   unfolding counted
   counted-all m a k h i = ap (λ (b : Bool). if_else b (added_by k s ch cmd 0x9000 a) []) (all_of_accepted (leb 1 m ∷ leb m n ∷ []) (le-leb 1 m h, (le-leb m n i, tt)))
 
   -- an append: all of its stores are made, or the last is not
-  append-cut-grown : (f : Frame) (r : Rule) → let d = (so_far ch ++ part cmd f.from f.lc) in From img s (whole_frame ch f) d (AppendRecord r)
-      → Grown img (make_stores_in n img r.kind Record d) (counted (length (stores_in img r.kind Record d)) (Good f))
+  append-cut-grown : (f : Frame) (r : Rule) → let d = (so_far ch ++ part cmd f.from f.lc) in From img s (whole_frame ch f) d (Ok (AppendRecord r))
+      → Grown img (make_stores_in n img r.kind Record d) (counted (length (stores_in img r.kind Record d)) (Some f))
   append-cut-grown f r h =
       by_cases (leb (length d + 4) n)
-      (λ e. grown_as (append_all img r.kind d n (leb-true (length d + 4) n e)) (λ k. counted-all m (Good f) k (omega (arith, many)) (omega (arith, many, leb-true (length d + 4) n e))) (appends-grown img s ch cmd [] o f r h))
+      (λ e. grown_as (append_all img r.kind d n (leb-true (length d + 4) n e)) (λ k. counted-all m (Some f) k (omega (arith, many)) (omega (arith, many, leb-true (length d + 4) n e))) (appends-grown img s ch cmd [] o f r h))
       (λ e. grown-less (leb-false (length d + 4) n e))
     where
       d : List ℕ
@@ -302,10 +298,10 @@ module _ (img : List ℕ) (s : Session) (ch : Chain) (cmd : List ℕ) (n : ℕ) 
       many : m ≡ length d + 4
       many = append-stores img r.kind r d o a
 
-      grown-less : n < length d + 4 → Grown img (make_stores_in n img r.kind Record d) (counted m (Good f))
+      grown-less : n < length d + 4 → Grown img (make_stores_in n img r.kind Record d) (counted m (Some f))
       grown-less l =
           let c = cut_changes img r.kind r d o a n l in
-          let none : (k : ℕ) → records_of img k ++ [] ≡ records_of img k ++ counted m (Good f) k = λ k. ap (λ (x : List (List ℕ)). records_of img k ++ x) (sym (counted-less m (Good f) k (omega (arith, many, l)))) in
+          let none : (k : ℕ) → records_of img k ++ [] ≡ records_of img k ++ counted m (Some f) k = λ k. ap (λ (x : List (List ℕ)). records_of img k ++ x) (sym (counted-less m (Some f) k (omega (arith, many, l)))) in
           record {
             well = c.well;
             files = λ k y. c.same-files k ∙ y;
@@ -316,50 +312,50 @@ module _ (img : List ℕ) (s : Session) (ch : Chain) (cmd : List ℕ) (n : ℕ) 
           }
 
   -- an activation: its store is made or not
-  activate-cut-grown : (f : Frame) (b : ℕ) → let d = (so_far ch ++ part cmd f.from f.lc) in From img s (whole_frame ch f) d (Activate b)
-      → Grown img (make_stores_in n img (biometrics_kind b) State d) (counted (length (stores_in img (biometrics_kind b) State d)) (Good f))
+  activate-cut-grown : (f : Frame) (b : ℕ) → let d = (so_far ch ++ part cmd f.from f.lc) in From img s (whole_frame ch f) d (Ok (Activate b))
+      → Grown img (make_stores_in n img (biometrics_kind b) State d) (counted (length (stores_in img (biometrics_kind b) State d)) (Some f))
   unfolding all_of
   activate-cut-grown f b h =
       let d = (so_far ch ++ part cmd f.from f.lc) in
       let i = h.1.file.ok in
-      let none : (k : ℕ) → counted (length (stores_in img (biometrics_kind b) State d)) (Good f) k ≡ [] = λ k. counted-other (length (stores_in img (biometrics_kind b) State d)) (Good f) k (by-pair img s ch cmd f 0x9000 0x00 0x44 h.0 refl k) in
+      let none : (k : ℕ) → counted (length (stores_in img (biometrics_kind b) State d)) (Some f) k ≡ [] = λ k. counted-other (length (stores_in img (biometrics_kind b) State d)) (Some f) k (by-pair img s ch cmd f 0x9000 0x00 0x44 h.0 refl k) in
       by_cases (leb 1 n)
       (λ e. grown_as (activate_all img (biometrics_kind b) d n (leb-true 1 n e)) (λ k. refl) (grown-changed img o _ (biometrics_kind b) i.kind (activate_changes img (biometrics_kind b) o i.kind i.stands) none))
       (λ e. let z : n ≡ 0 = omega (arith, leb-false 1 n e) in
       grown-none img o (ap (λ (j : ℕ). make_stores_in j img (biometrics_kind b) State d) z ∙ none_made img (biometrics_kind b) State d) none)
 
-  storing-grown : (f : Frame) (x : Action) → let d = (so_far ch ++ part cmd f.from f.lc) in From img s (whole_frame ch f) d x
-      → Grown img (cut_image n (storing x) img d) (counted (cut_stores (storing x) img d) (Good f))
-  storing-grown f (Status w) h = grown-none img o refl (counted_none (Good f))
-  storing-grown f (SelectApplication a) h = grown-none img o refl (counted_none (Good f))
-  storing-grown f (SelectFile g) h = grown-none img o refl (counted_none (Good f))
-  storing-grown f (ReadBinary t a b) h = grown-none img o refl (counted_none (Good f))
-  storing-grown f (UpdateBinary b w) h = grown-none img o refl (counted_none (Good f))
-  storing-grown f (Activate b) h = activate-cut-grown f b h
-  storing-grown f (AppendRecord r) h = append-cut-grown f r h
-  storing-grown f (ReadRecord r a b) h = grown-none img o refl (counted_none (Good f))
-  storing-grown f (SearchRecord r q ne) h = grown-none img o refl (counted_none (Good f))
-  storing-grown f (Report g p2) h = grown-none img o refl (counted_none (Good f))
-  storing-grown f (ReadBinaryOdd t a b) h = grown-none img o refl (counted_none (Good f))
+  storing-grown : (f : Frame) (x : Result Action ℕ) → let d = (so_far ch ++ part cmd f.from f.lc) in From img s (whole_frame ch f) d x
+      → Grown img (cut_image n (storing x) img d) (counted (cut_stores (storing x) img d) (Some f))
+  storing-grown f (Err w) h = grown-none img o refl (counted_none (Some f))
+  storing-grown f (Ok (SelectApplication a)) h = grown-none img o refl (counted_none (Some f))
+  storing-grown f (Ok (SelectFile g)) h = grown-none img o refl (counted_none (Some f))
+  storing-grown f (Ok (ReadBinary t a b)) h = grown-none img o refl (counted_none (Some f))
+  storing-grown f (Ok (UpdateBinary b w)) h = grown-none img o refl (counted_none (Some f))
+  storing-grown f (Ok (Activate b)) h = activate-cut-grown f b h
+  storing-grown f (Ok (AppendRecord r)) h = append-cut-grown f r h
+  storing-grown f (Ok (ReadRecord r a b)) h = grown-none img o refl (counted_none (Some f))
+  storing-grown f (Ok (SearchRecord r q ne)) h = grown-none img o refl (counted_none (Some f))
+  storing-grown f (Ok (Report g p2)) h = grown-none img o refl (counted_none (Some f))
+  storing-grown f (Ok (ReadBinaryOdd t a b)) h = grown-none img o refl (counted_none (Some f))
 
-  worded-cut-grown : (d : List ℕ) (w : ℕ) (a : Apdu) (x : Action) → x ≡ Status w → Grown img (cut_image n (storing x) img d) (counted (cut_stores (storing x) img d) a)
+  worded-cut-grown : (d : List ℕ) (w : ℕ) (a : Option Frame) (x : Result Action ℕ) → x ≡ Err w → Grown img (cut_image n (storing x) img d) (counted (cut_stores (storing x) img d) a)
   worded-cut-grown d w a x e =
-      subst (λ (y : Action). Grown img (cut_image n (storing y) img d) (counted (cut_stores (storing y) img d) a)) (sym e) (grown-none img o refl (counted_none a))
+      subst (λ (y : Result Action ℕ). Grown img (cut_image n (storing y) img d) (counted (cut_stores (storing y) img d) a)) (sym e) (grown-none img o refl (counted_none a))
 
-  course-cut-grown : (f : Frame) (k : Course) (x : Action) → let d = so_far ch ++ part cmd f.from f.lc in FromCourse k img s (whole_frame ch f) d x
-      → Grown img (cut_image n (storing x) img d) (counted (cut_stores (storing x) img d) (Good f))
-  course-cut-grown f (Stops w) x h = worded-cut-grown _ w (Good f) x h.0
-  course-cut-grown f Extends x h = worded-cut-grown _ normal (Good f) x h
-  course-cut-grown f Goes x h = storing-grown f x h
+  course-cut-grown : (f : Frame) (k : Result Course ℕ) (x : Result Action ℕ) → let d = so_far ch ++ part cmd f.from f.lc in FromCourse k img s (whole_frame ch f) d x
+      → Grown img (cut_image n (storing x) img d) (counted (cut_stores (storing x) img d) (Some f))
+  course-cut-grown f (Err w) x h = worded-cut-grown _ w (Some f) x h.0
+  course-cut-grown f (Ok Extends) x h = worded-cut-grown _ normal (Some f) x h
+  course-cut-grown f (Ok Goes) x h = storing-grown f x h
 
-  shape-cut-grown : (a : Apdu) (x : Action) → FromShape img s ch cmd a x → Grown img (cut_image n (storing x) img (data_by ch cmd a)) (counted (cut_stores (storing x) img (data_by ch cmd a)) a)
-  shape-cut-grown Bad x h = worded-cut-grown [] wrong_length Bad x h
-  shape-cut-grown (Good f) x h = course-cut-grown f (turn ch f) x h
+  shape-cut-grown : (a : Option Frame) (x : Result Action ℕ) → FromShape img s ch cmd a x → Grown img (cut_image n (storing x) img (data_by ch cmd a)) (counted (cut_stores (storing x) img (data_by ch cmd a)) a)
+  shape-cut-grown None x h = worded-cut-grown [] wrong_length None x h
+  shape-cut-grown (Some f) x h = course-cut-grown f (turn ch f) x h
 
-  cut_by-grown : (v : Verdict) → let c = cut_by v img s ch cmd n in Grown img c.image (counted c.answer.stores (shape_of cmd))
+  cut_by-grown : (v : Result (Unit {0}) Refusal) → let c = cut_by v img s ch cmd n in Grown img c.image (counted c.answer.stores (shape_of cmd))
   unfolding data_of
-  cut_by-grown Accepted = shape-cut-grown (shape_of cmd) (decide img s ch cmd) (decide-from img s ch cmd)
-  cut_by-grown (Refused r) = grown-none img o refl (counted_none (shape_of cmd))
+  cut_by-grown (Ok tt) = shape-cut-grown (shape_of cmd) (decide img s ch cmd) (decide-from img s ch cmd)
+  cut_by-grown (Err r) = grown-none img o refl (counted_none (shape_of cmd))
 
 -- ---- calls, one after the other
 

@@ -22,32 +22,23 @@ use Rattle.store_cut.specs.Stores.{Store, at, run, record_stores, stores, made, 
 use Rattle.store_cut.specs.declared.Writing.{Writing}
 use Rattle.store_cut.specs.declared.Writing.TheVariants.{Record, State}
 use Rattle.store_image.specs.Image.{find, is_at, has, body, with_body_by, with_body, make_stores_in}
-use Rattle.store_image.specs.declared.Found.{Found}
-use Rattle.store_image.specs.declared.Found.TheVariants.{At, Missing}
 use Rattle.store_image.proofs.Laws.{append_accepted, found_inside, found-body, biometrics-file, biometrics_facts}
 use Rattle.store_files.specs.declared.File.TheVariants.{RecordFile}
 use Rattle.machine_apdu.specs.Shape.{shape_of}
-use Rattle.machine_apdu.specs.declared.Apdu.{Apdu}
-use Rattle.machine_apdu.specs.declared.Apdu.TheVariants.{Good}
 use Rattle.machine_apdu.specs.declared.Frame.{Frame}
 use Rattle.machine_session.specs.Session.{session_fits}
 use Rattle.machine_session.specs.declared.Session.{Session}
 use Rattle.machine_session.specs.declared.Named.TheVariants.{Current}
-use Rattle.machine_session.specs.declared.ResolvedBiometrics.{ResolvedBiometrics}
-use Rattle.machine_session.specs.declared.ResolvedBiometrics.TheVariants.{BiometricsStop, BiometricsAt}
 use Rattle.machine_session.proofs.Steps.{in_order-each}
 use Rattle.machine_session.specs.Resolve.{resolve_record, resolve_biometrics}
 use Rattle.machine_session.specs.declared.Access.TheVariants.{Append}
-use Rattle.machine_session.specs.declared.ResolvedRecord.TheVariants.{RecordAt}
 use Rattle.machine_action.specs.Tests.{or_current, on_biometrics}
 use Rattle.machine_action.specs.declared.Action.{Action}
-use Rattle.machine_action.specs.declared.Action.TheVariants.{Status, Activate}
+use Rattle.machine_action.specs.declared.Action.TheVariants.{Activate}
 use Rattle.machine_binary.specs.Activate.{activate_file}
 use Rattle.machine_dispatch.specs.Decide.{by_ins, by_class, decide, data_of}
 use Rattle.machine.specs.Step.{step}
 use Rattle.machine_cut.specs.Cutting.{storing}
-use Rattle.machine_cut.specs.declared.Storage.{Storage}
-use Rattle.machine_cut.specs.declared.Storage.TheVariants.{To, Nothing}
 use Rattle.machine_link.specs.Link.{is_command}
 use Rattle.promises.specs.Calls.{is_pair, whole_of}
 use Rattle.promises.specs.Cuts.{append_list, AppendCut, AppendInOrder, ActivateCut, ActivateInOrder}
@@ -55,6 +46,8 @@ use Rattle.promises.proofs.Naming.{record_meant, record_listed, p2-meant, kind-m
 use Rattle.promises.proofs.Answering.{status_accepted, accepted_room}
 use Rattle.promises.proofs.Whole.{pair_facts, class_decided}
 use Rattle.promises.proofs.Cuts.{p2_of, Cutting, append-cut, activate-cut, no_cut, cutting, append_or_activate}
+use Rattle.std.specs.Prelude.{Option, Some, None, Result, Ok, Err}
+use Rattle.store_files.specs.declared.File.{File}
 
 -- ---- a store in the middle of a list
 
@@ -116,7 +109,7 @@ within-run m p (b ∷ bs) ts h w = let l : p < m = omega arith in more l (within
 
 -- ---- the stores of a file's body, in the image
 
-module _ (img : List ℕ) (k s m : ℕ) (e : find img k ≡ At s m) where
+module _ (img : List ℕ) (k s m : ℕ) (e : find img k ≡ Some (s, m)) where
   body-size : length (body img k) ≡ m
   body-size = ap length (found-body img k s m e) ∙ length_part img s m (found_inside img k s m e)
 
@@ -126,25 +119,25 @@ module _ (img : List ℕ) (k s m : ℕ) (e : find img k ≡ At s m) where
       let b = body img k in
       let i = found_inside img k s m e in
       let ss = take n (stores w b d) in
-      ap (λ (f : Found). with_body_by f img (made ss b)) e
+      ap (λ (f : Option (ℕ × ℕ)). with_body_by f img (made ss b)) e
       ∙ made_shifted img s (omega (arith, i)) ss b (subst (λ (j : ℕ). Within j ss) (sym body-size) (within-take m n (stores w b d) h))
       ∙ ap₂ made (take_shifted n s (stores w b d)) (ap (splice img s) (found-body img k s m e) ∙ splice-same img s m i)
 
 -- a file that is there stands somewhere
 data Stands (img : List ℕ) (k : ℕ) : Type 0 where
-  stands : (s m : ℕ) → find img k ≡ At s m → Stands img k
+  stands : (s m : ℕ) → find img k ≡ Some (s, m) → Stands img k
 
 stands_at : (img : List ℕ) (k : ℕ) → has img k ≡ true → Stands img k
 unfolding has
 stands_at img k = go (find img k) refl
   where
-    go : (f : Found) → find img k ≡ f → is_at f ≡ true → Stands img k
-    go (At s m) e h = stands s m e
-    go Missing e h = false-true h
+    go : (f : Option (ℕ × ℕ)) → find img k ≡ f → is_at f ≡ true → Stands img k
+    go (Some (s, m)) e h = stands s m e
+    go None e h = false-true h
 
 -- ---- an append
 
-module _ (img : List ℕ) (k s m : ℕ) (e : find img k ≡ At s m) (d : List ℕ) (t : appendable (body img k) (length d) ≡ true) where
+module _ (img : List ℕ) (k s m : ℕ) (e : find img k ≡ Some (s, m)) (d : List ℕ) (t : appendable (body img k) (length d) ≡ true) where
   abbrev b : List ℕ
   b = body img k
 
@@ -180,8 +173,8 @@ append_in_order img s ch cmd buf f n z p w = go (cutting img s ch cmd n buf long
     go : Cutting img s ch cmd n buf long → AppendCut img s ch cmd f n
     go (append-cut o q r e a c i u) = by (stands_at img r.kind a.stands)
       where
-        e' : resolve_record img s Append (or_current (f.header.p2 / 8)) ≡ RecordAt r
-        e' = subst (λ (x : Apdu). resolve_record img s Append (or_current (p2_of x)) ≡ RecordAt r) z e
+        e' : resolve_record img s Append (or_current (f.header.p2 / 8)) ≡ Ok r
+        e' = subst (λ (x : Option Frame). resolve_record img s Append (or_current (p2_of x)) ≡ Ok r) z e
 
         by : Stands img r.kind → AppendCut img s ch cmd f n
         by (stands at-s m h) =
@@ -203,27 +196,27 @@ append_in_order img s ch cmd buf f n z p w = go (cutting img s ch cmd n buf long
 -- ---- an activation
 
 -- an ACTIVATE that is decided is of the current file
-activate-current : (img : List ℕ) (s : Session) (ch : Chain) (cmd : List ℕ) (f : Frame) (j : ℕ) → whole_of ch cmd ≡ Good f → is_pair f 0x00 0x44 ≡ true → decide img s ch cmd ≡ Activate j
-    → resolve_biometrics img s Current ≡ BiometricsAt j
+activate-current : (img : List ℕ) (s : Session) (ch : Chain) (cmd : List ℕ) (f : Frame) (j : ℕ) → whole_of ch cmd ≡ Some f → is_pair f 0x00 0x44 ≡ true → decide img s ch cmd ≡ Ok (Activate j)
+    → resolve_biometrics img s Current ≡ Ok j
 activate-current img s ch cmd f j z p e = tests (sym led ∙ e)
   where
     led : decide img s ch cmd ≡ activate_file img s f
     led = let h = pair_facts f 0x00 0x44 p in class_decided ch cmd f z 0x00 0x44 p refl refl (unfold is_command in refl) img s ∙ (unfold by_class by_ins in simp (h.0, h.1))
 
     -- whatever is decided, an activation of j is that of the file resolved
-    P : Action → Type 0
-    P x = x ≡ Activate j → resolve_biometrics img s Current ≡ BiometricsAt j
+    P : Result Action ℕ → Type 0
+    P x = x ≡ Ok (Activate j) → resolve_biometrics img s Current ≡ Ok j
 
-    kind_of : Storage → ℕ
-    kind_of (To k w) = k
-    kind_of Nothing = 0
+    kind_of : Option (ℕ × Writing) → ℕ
+    kind_of (Some (k, w)) = k
+    kind_of None = 0
 
-    word : (w : ℕ) → P (Status w)
-    word w y = absurd (let v : 0 ≡ biometrics_kind j = ap (λ (x : Action). kind_of (storing x)) y in omega (arith, v))
+    word : (w : ℕ) → P (Err w)
+    word w y = absurd (let v : 0 ≡ biometrics_kind j = ap (λ (x : Result Action ℕ). kind_of (storing x)) y in omega (arith, v))
 
-    on : (x : ResolvedBiometrics) → resolve_biometrics img s Current ≡ x → P (on_biometrics x Activate)
-    on (BiometricsStop w) y v = word w v
-    on (BiometricsAt n) y v = y ∙ ap BiometricsAt (let k : biometrics_kind n ≡ biometrics_kind j = ap (λ (x : Action). kind_of (storing x)) v in omega (arith, k))
+    on : (x : Result ℕ ℕ) → resolve_biometrics img s Current ≡ x → P (on_biometrics x (λ (n : ℕ). Ok (Activate n)))
+    on (Err w) y v = word w v
+    on (Ok n) y v = y ∙ ap Ok (let k : biometrics_kind n ≡ biometrics_kind j = ap (λ (x : Result Action ℕ). kind_of (storing x)) v in omega (arith, k))
 
     tests : P (activate_file img s f)
     tests = unfold activate_file in in_order-each P _ _ (word 0x6A86, (word 0x6700, tt)) (λ q. on (resolve_biometrics img s Current) refl)
@@ -244,7 +237,7 @@ activate_in_order img s ch cmd buf f n z p w = go (cutting img s ch cmd n buf lo
         ok : bio_ok (body img k) ≡ true
         ok = biometrics-file img k o r.file.ok.kind r.file.ok.stands
 
-        within : (q m : ℕ) → find img k ≡ At q m → Within m (stores State (body img k) (data_of ch cmd))
+        within : (q m : ℕ) → find img k ≡ Some (q, m) → Within m (stores State (body img k) (data_of ch cmd))
         within q m h =
             unfold stores in
             let l = (biometrics_facts (body img k) ok).long in

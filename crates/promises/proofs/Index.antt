@@ -22,15 +22,12 @@ use Rattle.store_kinds.specs.Rules.{is_biometrics}
 use Rattle.store_image.specs.Image.{has, body, well_formed, records_of}
 use Rattle.store_image.proofs.Laws.{biometrics_unruled, body-well_formed}
 use Rattle.store_index.specs.Index.{places_to, record_file_ok, build_ok, build, build_into, extend_ok, extend, extend_into, read_ok, measure, IndexedPart}
-use Rattle.store_index.specs.declared.Indexed.TheVariants.{Counted, Refused}
 use Rattle.store_index.proofs.Places.{length-places, record_file_ok-kind, record_file_ok_few, record_file_ok_row, row_record_file_ok}
 use Rattle.store_index.proofs.Answering.{build_ok_facts, build_ok_accepted, build-refused, extend_ok_facts, extend_ok_accepted, extend-refused, extend-done, read_ok_facts, read_ok_accepted, measure-refused, measure-whole}
 use Rattle.store_index.proofs.Keeping.{build_counts, build_list, build-holds, build-entry, Read, reads_record, reads_none, read_returns, count_later, build-same, extend_more}
 use Rattle.machine_session.specs.Session.{place_record}
 use Rattle.machine_session.specs.declared.Session.{Session}
 use Rattle.machine_apdu.specs.Shape.{shape_of}
-use Rattle.machine_apdu.specs.declared.Apdu.{Apdu}
-use Rattle.machine_apdu.specs.declared.Apdu.TheVariants.{Bad, Good}
 use Rattle.machine_apdu.specs.declared.Frame.{Frame}
 use Rattle.machine_chain.specs.Chain.{Chain, so_far}
 use Rattle.machine_answer.specs.Outcome.{Outcome}
@@ -45,6 +42,7 @@ use Rattle.promises.specs.Index.{indexed_in, BuildC, CIndexBuilds, ExtendC, CInd
 use Rattle.promises.proofs.Naming.{kind-meant}
 use Rattle.promises.proofs.Calling.{c_holds, c_reads-history}
 use Rattle.promises.proofs.Bodies.{lent_body-is, lent_records, lent_grown}
+use Rattle.std.specs.Prelude.{Option, Some, None}
 
 -- ---- the halves of a result
 
@@ -54,7 +52,7 @@ record Tells (r n : ℕ) : Type 0 where
   refusal : refusal_in r ≡ 0
   low : indexed_in r ≡ n
 
-tells : (r n : ℕ) → r ≡ index_result (Counted n) → n < 4294967296 → Tells r n
+tells : (r n : ℕ) → r ≡ index_result (Some n) → n < 4294967296 → Tells r n
 unfolding index_result refusal_in indexed_in
 tells r n e h = record { whole = omega arith; refusal = omega arith; low = omega arith }
 
@@ -64,7 +62,7 @@ record Refuses (r : ℕ) : Type 0 where
   refusal : refusal_in r ≡ 6
   low : indexed_in r ≡ 0
 
-refuses : (r : ℕ) → r ≡ index_result Refused → Refuses r
+refuses : (r : ℕ) → r ≡ index_result None → Refuses r
 unfolding index_result refusal_in indexed_in
 refuses r e = record { six = e; refusal = omega arith; low = omega arith }
 
@@ -161,7 +159,7 @@ module _ (xs ps : List ℕ) (n : ℕ) (b : AllBytes xs) where
         within = λ _. omega (arith, y.within, t.whole);
       }
 
-  not-read : measure xs ps n ≡ Refused → (Readable xs ps n → ⊥) → ReadC xs ps n (index_result (measure xs ps n))
+  not-read : measure xs ps n ≡ None → (Readable xs ps n → ⊥) → ReadC xs ps n (index_result (measure xs ps n))
   not-read e f =
       let t = refuses (index_result (measure xs ps n)) (ap index_result e) in
       record {
@@ -183,9 +181,9 @@ one_or_none : (t : Bool) (d : List ℕ) → length (if_else t (d ∷ []) []) ≤
 one_or_none true d = omega arith
 one_or_none false d = omega arith
 
-added_by_few : (k : ℕ) (s : Session) (ch : Chain) (cmd : List ℕ) (w : ℕ) (a : Apdu) → length (added_by k s ch cmd w a) ≤ 1
-added_by_few k s ch cmd w Bad = omega arith
-added_by_few k s ch cmd w (Good f) =
+added_by_few : (k : ℕ) (s : Session) (ch : Chain) (cmd : List ℕ) (w : ℕ) (a : Option Frame) → length (added_by k s ch cmd w a) ≤ 1
+added_by_few k s ch cmd w None = omega arith
+added_by_few k s ch cmd w (Some f) =
     one_or_none (all_of (is_pair f 0x00 0xE2 ∷ eqb w 0x9000 ∷ is_meant_kind s (f.header.p2 / 8) k ∷ [])) (so_far ch ++ part cmd f.from f.lc)
 
 -- a call adds one record or none
@@ -293,7 +291,7 @@ module _ (k : ℕ) (ps : List ℕ) (b : is_biometrics k ≡ false) where
       lent : take (indexed_in (index_result (build k xs ps))) (build_into k xs ps) ≡ places_to xs (count xs)
       lent = ap (λ (m : ℕ). take m (build_into k xs ps)) i ∙ build-holds k xs ps e room
 
-      told : (n : ℕ) → Read k xs e n → index_result (measure xs (take (indexed_in (index_result (build k xs ps))) (build_into k xs ps)) n) ≡ index_result (Counted (length (nth (records xs) n)))
+      told : (n : ℕ) → Read k xs e n → index_result (measure xs (take (indexed_in (index_result (build k xs ps))) (build_into k xs ps)) n) ≡ index_result (Some (length (nth (records xs) n)))
       told n r = ap (λ (l : List ℕ). index_result (measure xs l n)) lent ∙ ap index_result r.counted
 
 -- the records of the body that is lent are the history

@@ -18,23 +18,20 @@ use Rattle.machine_session.specs.Verdict.{refusal_number, verdict_number, verdic
 use Rattle.machine_session.specs.declared.Session.{Session}
 use Rattle.machine_session.specs.declared.Refusal.{Refusal}
 use Rattle.machine_session.specs.declared.Refusal.TheVariants.{ShortBuffer, BadImage, BadRights, BadSession}
-use Rattle.machine_session.specs.declared.Verdict.{Verdict}
-use Rattle.machine_session.specs.declared.Verdict.TheVariants.{Accepted, Refused}
 use Rattle.machine_record.specs.SearchRecord.{search_status}
 use Rattle.machine_apdu.specs.Shape.{shape_of}
-use Rattle.machine_apdu.specs.declared.Apdu.{Apdu}
-use Rattle.machine_apdu.specs.declared.Apdu.TheVariants.{Bad, Good}
 use Rattle.machine_apdu.specs.declared.Frame.{Frame}
 use Rattle.machine_dispatch.specs.Decide.{by_class, data_of, on_course, by_shape, decide, chain_on, chain_by, chain_behind}
 use Rattle.machine_action.specs.declared.Action.{Action}
-use Rattle.machine_action.specs.declared.Action.TheVariants.{Status, SelectApplication, SelectFile, ReadBinary, UpdateBinary, Activate, AppendRecord, ReadRecord, SearchRecord, Report, ReadBinaryOdd}
+use Rattle.machine_action.specs.declared.Action.TheVariants.{SelectApplication, SelectFile, ReadBinary, UpdateBinary, Activate, AppendRecord, ReadRecord, SearchRecord, Report, ReadBinaryOdd}
 use Rattle.machine_answer.specs.Outcome.{Outcome, outcome, refused, word, says}
 use Rattle.machine.specs.Effects.{searched, done}
 use Rattle.machine_link.specs.Link.{turn, chain_fits}
 use Rattle.machine_link.specs.declared.Course.{Course}
-use Rattle.machine_link.specs.declared.Course.TheVariants.{Stops, Extends, Goes}
+use Rattle.machine_link.specs.declared.Course.TheVariants.{Extends, Goes}
 use Rattle.machine.specs.Step.{verdict_on, step_by, step, chain_after_by, chain_after}
 use Rattle.promises.specs.Promises.{Kept, SaysNo}
+use Rattle.std.specs.Prelude.{Option, Some, None, Result, Ok, Err}
 
 -- a run stored at the start changes nothing behind it
 pub put_rest : (buf vs : List ℕ) → drop (length vs) (put buf 0 vs) ≡ drop (length vs) buf
@@ -73,32 +70,32 @@ module _ (img : List ℕ) (s : Session) (ch : Chain) (buf : List ℕ) where
   effect-kept : (dat : List ℕ) (t : Session) (im : List ℕ) (left : Chain) → Kept img s ch buf (says 0x9000 dat t im buf) left
   effect-kept dat t im left = says-kept 0x9000 dat t im left (λ h. absurd (h refl)) (λ h. absurd (h refl)) (λ h. absurd (h refl))
 
-  done-kept : (x : Action) (d : List ℕ) → Kept img s ch buf (done x img s d buf) NoChain
+  done-kept : (x : Result Action ℕ) (d : List ℕ) → Kept img s ch buf (done x img s d buf) NoChain
   unfolding done searched
-  done-kept (Status w) d = word_kept w
-  done-kept (SelectApplication a) d = effect-kept _ _ _ _
-  done-kept (SelectFile f) d = effect-kept _ _ _ _
-  done-kept (ReadBinary t o n) d = effect-kept _ _ _ _
-  done-kept (UpdateBinary n w) d = effect-kept _ _ _ _
-  done-kept (Activate n) d = effect-kept _ _ _ _
-  done-kept (AppendRecord r) d = effect-kept _ _ _ _
-  done-kept (ReadRecord r a b) d = effect-kept _ _ _ _
-  done-kept (SearchRecord r q ne) d =
+  done-kept (Err w) d = word_kept w
+  done-kept (Ok (SelectApplication a)) d = effect-kept _ _ _ _
+  done-kept (Ok (SelectFile f)) d = effect-kept _ _ _ _
+  done-kept (Ok (ReadBinary t o n)) d = effect-kept _ _ _ _
+  done-kept (Ok (UpdateBinary n w)) d = effect-kept _ _ _ _
+  done-kept (Ok (Activate n)) d = effect-kept _ _ _ _
+  done-kept (Ok (AppendRecord r)) d = effect-kept _ _ _ _
+  done-kept (Ok (ReadRecord r a b)) d = effect-kept _ _ _ _
+  done-kept (Ok (SearchRecord r q ne)) d =
       if_else_ind (λ (o : Outcome). Kept img s ch buf o NoChain) (eqb (search_status (records_of img r.kind) d q ne) 0x9000) (λ e. effect-kept _ _ _ _) (λ e. word_kept _)
-  done-kept (Report f p2) d = effect-kept _ _ _ _
-  done-kept (ReadBinaryOdd t o n) d = effect-kept _ _ _ _
+  done-kept (Ok (Report f p2)) d = effect-kept _ _ _ _
+  done-kept (Ok (ReadBinaryOdd t o n)) d = effect-kept _ _ _ _
 
   -- a link that is taken is answered 9000, and leaves the longer chain
-  course-kept : (k : Course) (f g : Frame) (d e own : List ℕ) → Kept img s ch buf (done (on_course k img s f d) img s e buf) (chain_on k ch g own)
+  course-kept : (k : Result Course ℕ) (f g : Frame) (d e own : List ℕ) → Kept img s ch buf (done (on_course k img s f d) img s e buf) (chain_on k ch g own)
   unfolding done
-  course-kept (Stops w) f g d e own = word_kept w
-  course-kept Extends f g d e own = effect-kept _ _ _ _
-  course-kept Goes f g d e own = done-kept (by_class img s f d) e
+  course-kept (Err w) f g d e own = word_kept w
+  course-kept (Ok Extends) f g d e own = effect-kept _ _ _ _
+  course-kept (Ok Goes) f g d e own = done-kept (by_class img s f d) e
 
-  shape-kept : (a : Apdu) (cmd e : List ℕ) → Kept img s ch buf (done (by_shape img s ch cmd a) img s e buf) (chain_by ch cmd a)
+  shape-kept : (a : Option Frame) (cmd e : List ℕ) → Kept img s ch buf (done (by_shape img s ch cmd a) img s e buf) (chain_by ch cmd a)
   unfolding done
-  shape-kept Bad cmd e = word_kept _
-  shape-kept (Good f) cmd e = course-kept (turn ch f) _ f _ e _
+  shape-kept None cmd e = word_kept _
+  shape-kept (Some f) cmd e = course-kept (turn ch f) _ f _ e _
 
   refused_kept : (r : Refusal) → Memᴰ (refusal_number r) (0 ∷ 1 ∷ 2 ∷ 4 ∷ []) → Kept img s ch buf (outcome (refused r s) img buf) ch
   unfolding verdict_number refusal_number
@@ -121,18 +118,18 @@ module _ (img : List ℕ) (s : Session) (ch : Chain) (buf : List ℕ) where
       some BadSession z = omega (arith, z)
 
   -- number 3 is no command's
-  step_by-kept : (x : Verdict) (cmd : List ℕ) → (verdict_number x ≡ 3 → ⊥) → Kept img s ch buf (step_by x img s ch cmd buf) (chain_after_by x ch cmd)
+  step_by-kept : (x : Result (Unit {0}) Refusal) (cmd : List ℕ) → (verdict_number x ≡ 3 → ⊥) → Kept img s ch buf (step_by x img s ch cmd buf) (chain_after_by x ch cmd)
   unfolding step_by verdict_number refusal_number decide chain_behind
-  step_by-kept Accepted cmd n = shape-kept (shape_of cmd) cmd (data_of ch cmd)
-  step_by-kept (Refused ShortBuffer) cmd n = refused_kept ShortBuffer (Memᴰ.tail (Memᴰ.head refl))
-  step_by-kept (Refused BadImage) cmd n = refused_kept BadImage (Memᴰ.tail (Memᴰ.tail (Memᴰ.head refl)))
-  step_by-kept (Refused BadRights) cmd n = absurd (n refl)
-  step_by-kept (Refused BadSession) cmd n = refused_kept BadSession (Memᴰ.tail (Memᴰ.tail (Memᴰ.tail (Memᴰ.head refl))))
+  step_by-kept (Ok tt) cmd n = shape-kept (shape_of cmd) cmd (data_of ch cmd)
+  step_by-kept (Err ShortBuffer) cmd n = refused_kept ShortBuffer (Memᴰ.tail (Memᴰ.head refl))
+  step_by-kept (Err BadImage) cmd n = refused_kept BadImage (Memᴰ.tail (Memᴰ.tail (Memᴰ.head refl)))
+  step_by-kept (Err BadRights) cmd n = absurd (n refl)
+  step_by-kept (Err BadSession) cmd n = refused_kept BadSession (Memᴰ.tail (Memᴰ.tail (Memᴰ.tail (Memᴰ.head refl))))
 
 pub verdict-not-rights : (img : List ℕ) (fits : Bool) (n : ℕ) → verdict_number (verdict img fits n) ≡ 3 → ⊥
 unfolding verdict verdict_number refusal_number
 verdict-not-rights img fits n =
-    let P : Verdict → Type 0 = λ x. verdict_number x ≡ 3 → ⊥ in
+    let P : Result (Unit {0}) Refusal → Type 0 = λ x. verdict_number x ≡ 3 → ⊥ in
     if_else_ind P (ltb n 2050)
     (λ _ z. omega (arith, z))
     (λ _. if_else_ind P (well_formed img)

@@ -26,11 +26,7 @@ use Rattle.machine_session.specs.Verdict.{verdict_number, verdict}
 use Rattle.machine_session.specs.declared.Refusal.{Refusal}
 use Rattle.machine_session.specs.declared.Refusal.TheVariants.{ShortBuffer, BadImage, BadSession}
 use Rattle.machine_session.specs.declared.Session.{Session}
-use Rattle.machine_session.specs.declared.Verdict.{Verdict}
-use Rattle.machine_session.specs.declared.Verdict.TheVariants.{Accepted, Refused}
 use Rattle.machine_apdu.specs.Shape.{header_of, shape_of}
-use Rattle.machine_apdu.specs.declared.Apdu.{Apdu}
-use Rattle.machine_apdu.specs.declared.Apdu.TheVariants.{Bad, Good}
 use Rattle.machine_apdu.specs.declared.Frame.{Frame}
 use Rattle.machine_apdu.proofs.Laws.{shape_facts}
 use Rattle.machine_chain.specs.Chain.{Chain, NoChain, is_amid, so_far}
@@ -41,7 +37,7 @@ use Rattle.machine_chain.proofs.Joining.{blank-length}
 use Rattle.machine_chain.proofs.Storing.{Held, held-size, stored-chain, stored_same}
 use Rattle.machine_link.specs.Link.{turn, chain_fits, lent_fits}
 use Rattle.machine_link.specs.declared.Course.{Course}
-use Rattle.machine_link.specs.declared.Course.TheVariants.{Stops, Extends, Goes}
+use Rattle.machine_link.specs.declared.Course.TheVariants.{Extends, Goes}
 use Rattle.machine_dispatch.specs.Decide.{chain_on, chain_by, chain_behind}
 use Rattle.machine_dispatch.proofs.Allowing.{bytes-part}
 use Rattle.machine_answer.specs.Outcome.{Outcome}
@@ -61,25 +57,26 @@ use Rattle.promises.proofs.Saying.{step_small}
 use Rattle.promises.proofs.Growing.{call_grown}
 use Rattle.promises.proofs.Fitting.{answer-fits}
 use Rattle.promises.proofs.Fewer.{step-rights}
+use Rattle.std.specs.Prelude.{Option, Some, None, Result, Ok, Err}
 
 -- ---- the session
 
 -- an accepted command's chain fits, and the chain afterwards is the one behind the command
-accepted_chain : (img : List ℕ) (s : Session) (ch : Chain) (n : ℕ) → verdict_on img s ch n ≡ Accepted → chain_fits ch ≡ true
+accepted_chain : (img : List ℕ) (s : Session) (ch : Chain) (n : ℕ) → verdict_on img s ch n ≡ (Ok tt) → chain_fits ch ≡ true
 accepted_chain img s ch n e =
     let k = subst (Known img (all_of (session_fits img s ∷ chain_fits ch ∷ [])) n) e (verdict_accepted img (all_of (session_fits img s ∷ chain_fits ch ∷ [])) n) in
     (all_of_facts _ k.2).1.0
 
-pub behind_accepted : (img : List ℕ) (s : Session) (ch : Chain) (cmd : List ℕ) (n : ℕ) → verdict_on img s ch n ≡ Accepted → chain_after img s ch cmd n ≡ chain_behind ch cmd
+pub behind_accepted : (img : List ℕ) (s : Session) (ch : Chain) (cmd : List ℕ) (n : ℕ) → verdict_on img s ch n ≡ (Ok tt) → chain_after img s ch cmd n ≡ chain_behind ch cmd
 unfolding chain_after
-behind_accepted img s ch cmd n e = ap (λ (v : Verdict). chain_after_by v ch cmd) e
+behind_accepted img s ch cmd n e = ap (λ (v : Result (Unit {0}) Refusal). chain_after_by v ch cmd) e
 
 -- the session that a command answers 9000 in fits 25 bytes
 module _ (img ses : List ℕ) (ch : Chain) (cmd buf : List ℕ) (e : (step img (session_in ses) ch cmd buf).answer.status ≡ 0x9000) where
   abbrev now : Outcome
   now = step img (session_in ses) ch cmd buf
 
-  taken : verdict_on img (session_in ses) ch (length buf) ≡ Accepted
+  taken : verdict_on img (session_in ses) ch (length buf) ≡ (Ok tt)
   taken = status_accepted img (session_in ses) ch cmd buf e
 
   well : (well_formed img ≡ true) × (session_fits img (session_in ses) ≡ true)
@@ -117,10 +114,10 @@ pub session-long : (ses : List ℕ) → is_session_c ses ≡ true → 1054 ≤ l
 session-long ses y = let h = both-parts ses y in omega (arith, chain-long (chain_part ses) h.1, length-drop 25 ses)
 
 -- a session that does not fit is refused
-unfit_refused : (img : List ℕ) (n : ℕ) → (r : Refusal) × (verdict img false n ≡ Refused r)
+unfit_refused : (img : List ℕ) (n : ℕ) → (r : Refusal) × (verdict img false n ≡ Err r)
 unfolding verdict
 unfit_refused img n =
-    let P : Verdict → Type 0 = λ x. (r : Refusal) × (x ≡ Refused r) in
+    let P : Result (Unit {0}) Refusal → Type 0 = λ x. (r : Refusal) × (x ≡ Err r) in
     if_else_ind P (ltb n 2050) (λ _. (ShortBuffer, refl)) (λ _. if_else_ind P (well_formed img) (λ _. (BadSession, refl)) (λ _. (BadImage, refl)))
 
 module _ (img : List ℕ) (s : Session) (xs : List ℕ) (n : ℕ) where
@@ -144,14 +141,14 @@ unfolding called step_lent step chain_into
 called-session img ses cmd buf y =
     let h = both-parts ses y in
     simp h.0
-    (ap (λ (v : Verdict). called_by (take 25 ses ++ chain_into_by v (chain_part ses) cmd) (step_by v img (session_in ses) (chain_of_c ses) cmd buf))
+    (ap (λ (v : Result (Unit {0}) Refusal). called_by (take 25 ses ++ chain_into_by v (chain_part ses) cmd) (step_by v img (session_in ses) (chain_of_c ses) cmd buf))
     (lent-verdict img (session_in ses) (chain_part ses) (length buf) h.1))
 
 -- a refusal, as the caller gets it
-refused-called : (img ses cmd buf : List ℕ) (s : Session) (ch : Chain) (v : Verdict) (r : Refusal) → v ≡ Refused r
+refused-called : (img ses cmd buf : List ℕ) (s : Session) (ch : Chain) (v : Result (Unit {0}) Refusal) (r : Refusal) → v ≡ Err r
     → called_by (take 25 ses ++ chain_into_by v (chain_part ses) cmd) (step_by v img s ch cmd buf) ≡ called_as (result_of v 0 0) img ses buf
 unfolding step_by session_after
-refused-called img ses cmd buf s ch v r e = rw e (ap (λ (l : List ℕ). called_as (result_of (Refused r) 0 0) img l buf) (take-append-drop 25 ses))
+refused-called img ses cmd buf s ch v r e = rw e (ap (λ (l : List ℕ). called_as (result_of (Err r) 0 0) img l buf) (take-append-drop 25 ses))
 
 pub called-malformed : (img ses cmd buf : List ℕ) → is_session_c ses ≡ false → called img ses cmd buf ≡ malformed img ses buf
 unfolding called malformed step_lent chain_into
@@ -162,7 +159,7 @@ called-malformed img ses cmd buf n =
     let r = unfit_refused img (length buf) in
     simp y
     (refused-called img ses cmd buf (session_in ses) (chain_of_c ses) (verdict_lent img (session_in ses) (chain_part ses) (length buf)) r.0 (u ∙ r.1)
-    ∙ ap (λ (v : Verdict). called_as (result_of v 0 0) img ses buf) u))
+    ∙ ap (λ (v : Result (Unit {0}) Refusal). called_as (result_of v 0 0) img ses buf) u))
     (λ f. simp f)
 
 -- the same of a cut
@@ -171,9 +168,9 @@ unfolding called_cut cut cut_lent
 cut-session img ses cmd n y =
     let h = both-parts ses y in
     simp h.0
-    (ap (λ (v : Verdict). called_cut_by (cut_by v img (session_in ses) (chain_of_c ses) cmd n)) (lent-verdict img (session_in ses) (chain_part ses) 2050 h.1))
+    (ap (λ (v : Result (Unit {0}) Refusal). called_cut_by (cut_by v img (session_in ses) (chain_of_c ses) cmd n)) (lent-verdict img (session_in ses) (chain_part ses) 2050 h.1))
 
-refused-cut : (img : List ℕ) (s : Session) (ch : Chain) (cmd : List ℕ) (n : ℕ) (v : Verdict) (r : Refusal) → v ≡ Refused r
+refused-cut : (img : List ℕ) (s : Session) (ch : Chain) (cmd : List ℕ) (n : ℕ) (v : Result (Unit {0}) Refusal) (r : Refusal) → v ≡ Err r
     → called_cut_by (cut_by v img s ch cmd n) ≡ called_cut_as (cut_result v 0) img
 refused-cut img s ch cmd n v r e = rw e refl
 
@@ -186,7 +183,7 @@ cut-malformed img ses cmd n e =
     let r = unfit_refused img 2050 in
     simp y
     (refused-cut img (session_in ses) (chain_of_c ses) cmd n (verdict_lent img (session_in ses) (chain_part ses) 2050) r.0 (u ∙ r.1)
-    ∙ ap (λ (v : Verdict). called_cut_as (cut_result v 0) img) u))
+    ∙ ap (λ (v : Result (Unit {0}) Refusal). called_cut_as (cut_result v 0) img) u))
     (λ f. simp f)
 
 -- ---- a session's bytes with others behind them
@@ -257,10 +254,10 @@ module _ (ses back : List ℕ) (y : is_session ses ≡ true) where
 
 -- its INS, P1 and P2 are bytes of the command
 module _ (ch : Chain) (cmd : List ℕ) (b : AllBytes cmd) where
-  course-held : (f : Frame) → f.header ≡ header_of cmd → (k : Course) (d : List ℕ) → chain_fits (chain_on k ch f d) ≡ true → Held (chain_on k ch f d)
-  course-held f e (Stops w) d h = tt
-  course-held f e Goes d h = tt
-  course-held f e Extends d h =
+  course-held : (f : Frame) → f.header ≡ header_of cmd → (k : Result Course ℕ) (d : List ℕ) → chain_fits (chain_on k ch f d) ≡ true → Held (chain_on k ch f d)
+  course-held f e (Err w) d h = tt
+  course-held f e (Ok Goes) d h = tt
+  course-held f e (Ok Extends) d h =
       let t = all_of_facts _ h in
       let x : (f.header.ins < 256) × (f.header.p1 < 256) × (f.header.p2 < 256) = rw e (unfold AllBytes header_of in (b 1, b 2, b 3)) in
       (x.0, x.1, x.2, leb-true 1 (length (so_far ch ++ d)) t.0, leb-true (length (so_far ch ++ d)) 1024 t.1.0)
@@ -269,9 +266,9 @@ module _ (ch : Chain) (cmd : List ℕ) (b : AllBytes cmd) where
   unfolding chain_behind
   behind-held = go (shape_of cmd) refl
     where
-      go : (a : Apdu) → shape_of cmd ≡ a → chain_fits (chain_by ch cmd a) ≡ true → Held (chain_by ch cmd a)
-      go Bad e h = tt
-      go (Good f) e h = course-held f (shape_facts cmd (shape_of cmd) f refl e).head (turn ch f) (part cmd f.from f.lc) h
+      go : (a : Option Frame) → shape_of cmd ≡ a → chain_fits (chain_by ch cmd a) ≡ true → Held (chain_by ch cmd a)
+      go None e h = tt
+      go (Some f) e h = course-held f (shape_facts cmd (shape_of cmd) f refl e).head (turn ch f) (part cmd f.from f.lc) h
 
 -- its bytes were lent: they are that chain, as many as before, and behind 1,029 as before
 pub record ChainLeft (xs ys : List ℕ) (ch : Chain) : Type 0 where
@@ -297,9 +294,9 @@ module _ (img : List ℕ) (s : Session) (xs cmd buf : List ℕ) (c : is_chain xs
   unfolding chain_after
   chain_left_lem = go (verdict_on img s before (length buf)) refl
     where
-      go : (v : Verdict) → verdict_on img s before (length buf) ≡ v → ChainLeft xs (chain_into_by v xs cmd) (chain_after_by v before cmd)
-      go (Refused r) e = record { still = c; chain = refl; size = refl; rest = refl }
-      go Accepted e =
+      go : (v : Result (Unit {0}) Refusal) → verdict_on img s before (length buf) ≡ v → ChainLeft xs (chain_into_by v xs cmd) (chain_after_by v before cmd)
+      go (Err r) e = record { still = c; chain = refl; size = refl; rest = refl }
+      go (Ok tt) e =
           let w = accepted_facts img s before (length buf) e in
           let f = (answer-fits img s before cmd buf w.0 w.1 (accepted_chain img s before (length buf) e)).1 in
           chain-stored xs (chain_behind before cmd) c (behind-held before cmd b (ap chain_fits (sym (behind_accepted img s before cmd (length buf) e)) ∙ f))
@@ -369,7 +366,7 @@ module _ (img ses cmd buf : List ℕ) (y : is_session_c ses ≡ true) where
   back_left b = chain_left_lem img s (chain_part ses) cmd buf (both-parts ses y).1 b
 
   -- a refusal leaves them, and so does every status but 9000 where there is no chain
-  pub back_refused : (r : Refusal) → verdict_on img s (chain_of_c ses) (length buf) ≡ Refused r → back ≡ chain_part ses
+  pub back_refused : (r : Refusal) → verdict_on img s (chain_of_c ses) (length buf) ≡ Err r → back ≡ chain_part ses
   back_refused r e = rw e refl
 
   pub back_none : chain_of_c ses ≡ NoChain → (a.status ≡ 0x9000 → ⊥) → back ≡ chain_part ses
@@ -378,9 +375,9 @@ module _ (img ses cmd buf : List ℕ) (y : is_session_c ses ≡ true) where
       none : chain_after img s (chain_of_c ses) cmd (length buf) ≡ NoChain
       none = (step_kept img s (chain_of_c ses) cmd buf).chain_kept z d
 
-      go : (v : Verdict) → verdict_on img s (chain_of_c ses) (length buf) ≡ v → chain_into_by v (chain_part ses) cmd ≡ chain_part ses
-      go (Refused r) e = refl
-      go Accepted e =
+      go : (v : Result (Unit {0}) Refusal) → verdict_on img s (chain_of_c ses) (length buf) ≡ v → chain_into_by v (chain_part ses) cmd ≡ chain_part ses
+      go (Err r) e = refl
+      go (Ok tt) e =
           let g : chain_behind (chain_of_c ses) cmd ≡ NoChain = sym (behind_accepted img s (chain_of_c ses) cmd (length buf) e) ∙ none in
           ap (λ (c : Chain). put (chain_part ses) 0 (chain_bytes c)) g ∙ sym (none-blank (chain_part ses) (both-parts ses y).1 (ap is_amid z))
 
@@ -430,7 +427,7 @@ opening-bytes rights ses l =
 
 -- ---- the result
 
-result-sum : (v : Verdict) (l w : ℕ) → l ≤ 2050 → w ≤ 0x9000 → result_of v l w ≡ verdict_number v * 4294967296 + l * 65536 + w
+result-sum : (v : Result (Unit {0}) Refusal) (l w : ℕ) → l ≤ 2050 → w ≤ 0x9000 → result_of v l w ≡ verdict_number v * 4294967296 + l * 65536 + w
 unfolding result_of
 result-sum v l w h k = omega (arith, h, k)
 

@@ -15,7 +15,6 @@ use Rattle.base.proofs.Cases.{by_cases, if_else_ind, false-true, all_of_facts, a
 use Rattle.base.proofs.Parts.{length_part}
 use Rattle.machine_apdu.specs.Status.{normal, other_header}
 use Rattle.machine_apdu.specs.Shape.{shape_of}
-use Rattle.machine_apdu.specs.declared.Apdu.TheVariants.{Good}
 use Rattle.machine_apdu.specs.declared.Frame.{Frame}
 use Rattle.machine_apdu.specs.declared.Header.{Header}
 use Rattle.machine_apdu.proofs.Laws.{shape_facts}
@@ -25,16 +24,13 @@ use Rattle.machine_session.specs.Verdict.{refusal_number, verdict_number, verdic
 use Rattle.machine_session.specs.declared.Refusal.{Refusal}
 use Rattle.machine_session.specs.declared.Refusal.TheVariants.{ShortBuffer, BadImage, BadRights, BadSession}
 use Rattle.machine_session.specs.declared.Session.{Session}
-use Rattle.machine_session.specs.declared.Verdict.{Verdict}
-use Rattle.machine_session.specs.declared.Verdict.TheVariants.{Accepted, Refused}
 use Rattle.machine_session.proofs.Steps.{in_order-each}
 use Rattle.machine_action.specs.Tests.{lc_only}
 use Rattle.machine_action.specs.declared.Action.{Action}
-use Rattle.machine_action.specs.declared.Action.TheVariants.{Status}
 use Rattle.machine_chain.specs.Chain.{Chain, NoChain, Links, is_amid, so_far, goes_on, extended}
 use Rattle.machine_link.specs.Link.{is_link, class_of, is_command, head_status, join_fits, link_turn, last_turn, turn, chain_fits}
 use Rattle.machine_link.specs.declared.Course.{Course}
-use Rattle.machine_link.specs.declared.Course.TheVariants.{Stops, Extends, Goes}
+use Rattle.machine_link.specs.declared.Course.TheVariants.{Extends, Goes}
 use Rattle.machine_link.proofs.Turning.{Extending, Going, Turned, stopped, joined, gone, turn-told, extending_few, going_few}
 use Rattle.machine_dispatch.specs.Decide.{by_class, whole_frame, on_course, decide, data_of, chain_on, chain_behind}
 use Rattle.machine_dispatch.proofs.Early.{head_fits, early_word, early, same-frame}
@@ -43,6 +39,7 @@ use Rattle.machine.specs.Effects.{done}
 use Rattle.machine.specs.Step.{verdict_on, step_by, step, chain_after_by, chain_after}
 use Rattle.promises.specs.Calls.{whole_by, whole_of}
 use Rattle.promises.specs.Links.{LinkPair, Takes, LinkAnswered, EachLinkAnswered, GoesOn, Between, after_sending, Link, after_links, pieces, IsLink, AllLinks, CutInto, LinksAsWhole}
+use Rattle.std.specs.Prelude.{Some, Result, Ok, Err}
 
 -- ---- CLA and INS of a link
 
@@ -101,7 +98,7 @@ head-known ch h k = simp (k.0, k.1)
 
 module _ (ch : Chain) (f : Frame) (l : is_link f.header ≡ true) where
   -- where the chain takes it its course is to extend it, and the other way round
-  taken : Takes ch f → turn ch f ≡ Extends
+  taken : Takes ch f → turn ch f ≡ (Ok Extends)
   unfolding turn link_turn in_order lc_only all_of join_fits
   taken t =
       let h : head_status ch f.header ≡ normal = head-known ch f.header (pair-known f.header t.pair) ∙ simp t.continues in
@@ -121,27 +118,27 @@ module _ (ch : Chain) (f : Frame) (l : is_link f.header ≡ true) where
         fits = extending_few ch f x;
       }
 
-  other : LinkPair f.header → goes_on ch f.header ≡ false → turn ch f ≡ Stops other_header
+  other : LinkPair f.header → goes_on ch f.header ≡ false → turn ch f ≡ Err other_header
   unfolding turn link_turn in_order
   other p g =
       let h : head_status ch f.header ≡ other_header = head-known ch f.header (pair-known f.header p) ∙ simp g in
       simp (l, h)
 
-  course-answered : (img : List ℕ) (s : Session) (cmd d buf : List ℕ) (k : Course) → turn ch f ≡ k → Turned ch f k
+  course-answered : (img : List ℕ) (s : Session) (cmd d buf : List ℕ) (k : Result Course ℕ) → turn ch f ≡ k → Turned ch f k
       → LinkAnswered img s ch cmd f (done (on_course k img s (whole_frame ch f) d) img s d buf) (chain_on k ch f (part cmd f.from f.lc))
   unfolding done says
-  course-answered img s cmd d buf (Stops w) t (stopped v b) =
+  course-answered img s cmd d buf (Err w) t (stopped v b) =
       let n : w ≡ 0x9000 → ⊥ = λ e. omega (arith, ltb-true w 0x9000 b, e) in
       record {
-        taken_complete = λ x. let z : Stops w ≡ Extends = sym t ∙ taken x in let y : ◌≡◌ {A = ℕ} 0 1 = cc in absurd (omega arith);
+        taken_complete = λ x. let z : Err w ≡ (Ok Extends) = sym t ∙ taken x in let y : ◌≡◌ {A = ℕ} 0 1 = cc in absurd (omega arith);
         taken_sound = λ e. absurd (n e);
         joins = λ e. absurd (n e);
         image_kept = refl;
         session_kept = refl;
         nothing_told = refl;
-        another_header = λ p g. let z : Stops w ≡ Stops other_header = sym t ∙ other p g in cc;
+        another_header = λ p g. let z : Err w ≡ Err other_header = sym t ∙ other p g in cc;
       }
-  course-answered img s cmd d buf Extends t (joined x) = record {
+  course-answered img s cmd d buf (Ok Extends) t (joined x) = record {
     taken_complete = λ y. refl;
     taken_sound = λ e. takes x;
     joins = λ e. refl;
@@ -150,20 +147,20 @@ module _ (ch : Chain) (f : Frame) (l : is_link f.header ≡ true) where
     nothing_told = refl;
     another_header = λ p g. false-true (sym g ∙ (takes x).continues);
   }
-  course-answered img s cmd d buf Goes t (gone x) = false-true (sym x.whole ∙ l)
+  course-answered img s cmd d buf (Ok Goes) t (gone x) = false-true (sym x.whole ∙ l)
 
 -- an accepted call
 taken_accepted : (img : List ℕ) (s : Session) (ch : Chain) (cmd buf : List ℕ) → verdict_number (step img s ch cmd buf).answer.verdict ≡ 0
-    → verdict_on img s ch (length buf) ≡ Accepted
+    → verdict_on img s ch (length buf) ≡ (Ok tt)
 unfolding step step_by verdict_number refusal_number
 taken_accepted img s ch cmd buf e = go (verdict_on img s ch (length buf)) e
   where
-    go : (x : Verdict) → verdict_number (step_by x img s ch cmd buf).answer.verdict ≡ 0 → x ≡ Accepted
-    go Accepted e = refl
-    go (Refused ShortBuffer) e = absurd (omega (arith, e))
-    go (Refused BadImage) e = absurd (omega (arith, e))
-    go (Refused BadRights) e = absurd (omega (arith, e))
-    go (Refused BadSession) e = absurd (omega (arith, e))
+    go : (x : Result (Unit {0}) Refusal) → verdict_number (step_by x img s ch cmd buf).answer.verdict ≡ 0 → x ≡ (Ok tt)
+    go (Ok tt) e = refl
+    go (Err ShortBuffer) e = absurd (omega (arith, e))
+    go (Err BadImage) e = absurd (omega (arith, e))
+    go (Err BadRights) e = absurd (omega (arith, e))
+    go (Err BadSession) e = absurd (omega (arith, e))
 
 pub link_answered : EachLinkAnswered
 unfolding step step_by chain_after decide data_of chain_behind
@@ -178,10 +175,10 @@ abbrev Done : ℕ → Type 0
 Done w = (w ≡ 0x9000) ⊎ (w ≡ 0x6282)
 
 -- no chain stops a command with one of these
-abbrev NotDone : Course → Type 0
-NotDone (Stops w) = Done w → ⊥
-NotDone Extends = Unit {0}
-NotDone Goes = Unit {0}
+abbrev NotDone : Result Course ℕ → Type 0
+NotDone (Err w) = Done w → ⊥
+NotDone (Ok Extends) = Unit {0}
+NotDone (Ok Goes) = Unit {0}
 
 module _ (ch : Chain) (f : Frame) (l : is_link f.header ≡ false) where
   head-not-done : eqb (head_status ch f.header) normal ≡ false → Done (head_status ch f.header) → ⊥
@@ -207,13 +204,13 @@ going_on : (ch : Chain) (f : Frame) → Going ch f → goes_on ch f.header ≡ t
 going_on NoChain f g = refl
 going_on (Links i p q bs) f g = (head_facts (Links i p q bs) f.header (g.last refl).0).1
 
-course_goes : (img : List ℕ) (s : Session) (ch : Chain) (f : Frame) (d buf : List ℕ) (k : Course) → is_link f.header ≡ false → f.lc ≤ 1024
+course_goes : (img : List ℕ) (s : Session) (ch : Chain) (f : Frame) (d buf : List ℕ) (k : Result Course ℕ) → is_link f.header ≡ false → f.lc ≤ 1024
     → Turned ch f k → NotDone k → Done (done (on_course k img s (whole_frame ch f) d) img s d buf).answer.status
-    → whole_by ch (Good f) ≡ Good (whole_frame ch f)
+    → whole_by ch (Some f) ≡ Some (whole_frame ch f)
 unfolding done says all_of
-course_goes img s ch f d buf (Stops w) l few t n x = absurd (n x)
-course_goes img s ch f d buf Extends l few (joined t) n x = false-true (sym l ∙ t.link)
-course_goes img s ch f d buf Goes l few (gone t) n x =
+course_goes img s ch f d buf (Err w) l few t n x = absurd (n x)
+course_goes img s ch f d buf (Ok Extends) l few (joined t) n x = false-true (sym l ∙ t.link)
+course_goes img s ch f d buf (Ok Goes) l few (gone t) n x =
     simp (going_on ch f t, le-leb (length (so_far ch) + f.lc) 1024 (going_few ch f few t))
 
 pub continues : GoesOn
@@ -221,11 +218,11 @@ unfolding step step_by decide data_of whole_of
 continues img s ch cmd buf f e l x =
     ap (whole_by ch) e ∙ go (verdict_on img s ch (length buf)) x
   where
-    go : (v : Verdict) → Done (step_by v img s ch cmd buf).answer.status → whole_by ch (Good f) ≡ Good (whole_frame ch f)
-    go Accepted x =
+    go : (v : Result (Unit {0}) Refusal) → Done (step_by v img s ch cmd buf).answer.status → whole_by ch (Some f) ≡ Some (whole_frame ch f)
+    go (Ok tt) x =
         course_goes img s ch f (so_far ch ++ part cmd f.from f.lc) buf (turn ch f) l (shape_facts cmd (shape_of cmd) f refl e).few
         (turn-told ch f) (turn-not-done ch f l) (simp e at x)
-    go (Refused r) x = absurd (⊎_elim (λ z. omega (arith, z)) (λ z. omega (arith, z)) x)
+    go (Err r) x = absurd (⊎_elim (λ z. omega (arith, z)) (λ z. omega (arith, z)) x)
 
 -- ---- a command in links
 
@@ -254,7 +251,7 @@ module _ (h : Header) (n : is_link h ≡ false) (l : Link) (x : IsLink h l) wher
   piece-length = ap length (sym x.carries) ∙ length_part l.command x.frame.from x.frame.lc (shape_facts l.command (shape_of l.command) x.frame refl x.shape).inside
 
   -- steps 2 to 4 hold, and there is room: it is taken
-  link-taken : (ch : Chain) → head_fits h ≡ true → goes_on ch h ≡ true → length (so_far ch) + length l.piece ≤ 1024 → turn ch x.frame ≡ Extends
+  link-taken : (ch : Chain) → head_fits h ≡ true → goes_on ch h ≡ true → length (so_far ch) + length l.piece ≤ 1024 → turn ch x.frame ≡ (Ok Extends)
   unfolding head_fits
   link-taken ch e o r =
       taken ch x.frame link-is (record {
@@ -299,16 +296,16 @@ module _ (img : List ℕ) (s : Session) where
   verdict-long n l = simp (le-ltb n 2050 l)
 
   -- what a link leaves that is refused, that is taken, that is stopped
-  sent-refused : (ch : Chain) (cmd buf : List ℕ) {r : Refusal} → verdict_on img s ch (length buf) ≡ Refused r → after_sending (at ch) cmd buf ≡ at ch
+  sent-refused : (ch : Chain) (cmd buf : List ℕ) {r : Refusal} → verdict_on img s ch (length buf) ≡ Err r → after_sending (at ch) cmd buf ≡ at ch
   unfolding step step_by chain_after
   sent-refused ch cmd buf e = simp e
 
-  sent-taken : (ch : Chain) (cmd buf : List ℕ) (f : Frame) → verdict_on img s ch (length buf) ≡ Accepted → shape_of cmd ≡ Good f → turn ch f ≡ Extends
+  sent-taken : (ch : Chain) (cmd buf : List ℕ) (f : Frame) → verdict_on img s ch (length buf) ≡ (Ok tt) → shape_of cmd ≡ Some f → turn ch f ≡ (Ok Extends)
       → after_sending (at ch) cmd buf ≡ at (extended ch f.header (part cmd f.from f.lc))
   unfolding step step_by chain_after decide chain_behind done says
   sent-taken ch cmd buf f v e t = simp (v, e, t)
 
-  sent-stopped : (ch : Chain) (cmd buf : List ℕ) (f : Frame) {w : ℕ} → verdict_on img s ch (length buf) ≡ Accepted → shape_of cmd ≡ Good f → turn ch f ≡ Stops w
+  sent-stopped : (ch : Chain) (cmd buf : List ℕ) (f : Frame) {w : ℕ} → verdict_on img s ch (length buf) ≡ (Ok tt) → shape_of cmd ≡ Some f → turn ch f ≡ Err w
       → after_sending (at ch) cmd buf ≡ at NoChain
   unfolding step step_by chain_after decide chain_behind done says
   sent-stopped ch cmd buf f v e t = simp (v, e, t)
@@ -325,12 +322,12 @@ module _ (img : List ℕ) (s : Session) where
     link-stopped : head_fits h ≡ false → (l : Link) → IsLink h l → after_sending (at NoChain) l.command l.buffer ≡ at NoChain
     link-stopped e l x = go (verdict_on img s NoChain (length l.buffer)) refl (turn NoChain x.frame) refl (turn-told NoChain x.frame)
       where
-        go : (v : Verdict) → verdict_on img s NoChain (length l.buffer) ≡ v → (k : Course) → turn NoChain x.frame ≡ k → Turned NoChain x.frame k
+        go : (v : Result (Unit {0}) Refusal) → verdict_on img s NoChain (length l.buffer) ≡ v → (k : Result Course ℕ) → turn NoChain x.frame ≡ k → Turned NoChain x.frame k
             → after_sending (at NoChain) l.command l.buffer ≡ at NoChain
-        go (Refused r) v k t y = sent-refused NoChain l.command l.buffer v
-        go Accepted v (Stops w) t y = sent-stopped NoChain l.command l.buffer x.frame v x.shape t
-        go Accepted v Extends t (joined y) = false-true (sym e ∙ taken-fits h n l x NoChain y)
-        go Accepted v Goes t (gone y) = false-true (sym y.whole ∙ link-is h n l x)
+        go (Err r) v k t y = sent-refused NoChain l.command l.buffer v
+        go (Ok tt) v (Err w) t y = sent-stopped NoChain l.command l.buffer x.frame v x.shape t
+        go (Ok tt) v (Ok Extends) t (joined y) = false-true (sym e ∙ taken-fits h n l x NoChain y)
+        go (Ok tt) v (Ok Goes) t (gone y) = false-true (sym y.whole ∙ link-is h n l x)
 
     -- others join: image and session stay, and a chain of this header holds the bytes bs
     record Stands (b : Between) (bs : List ℕ) : Type 0 where
@@ -340,7 +337,7 @@ module _ (img : List ℕ) (s : Session) where
       continues : goes_on chain h ≡ true
       holds : so_far chain ≡ bs
 
-    links-join : verdict_on img s NoChain 2050 ≡ Accepted → head_fits h ≡ true → (ls : List Link) (ch : Chain) → AllLinks h ls → chain_fits ch ≡ true
+    links-join : verdict_on img s NoChain 2050 ≡ (Ok tt) → head_fits h ≡ true → (ls : List Link) (ch : Chain) → AllLinks h ls → chain_fits ch ≡ true
         → goes_on ch h ≡ true → length (so_far ch) + length (pieces ls) ≤ 1024 → Stands (after_links (at ch) ls) (so_far ch ++ pieces ls)
     unfolding after_links pieces
     links-join v e [] ch x a o r = record { chain = ch; is = refl; fits = a; continues = o; holds = sym (append-nil (so_far ch)) }
@@ -348,7 +345,7 @@ module _ (img : List ℕ) (s : Session) where
         let y = x.0 in
         let next = extended ch y.frame.header l.piece in
         let m = length-append l.piece (pieces ls) in
-        let u : verdict_on img s ch (length l.buffer) ≡ Accepted = verdict_same ch (length l.buffer) a ∙ verdict-long (length l.buffer) y.long ∙ v in
+        let u : verdict_on img s ch (length l.buffer) ≡ (Ok tt) = verdict_same ch (length l.buffer) a ∙ verdict-long (length l.buffer) y.long ∙ v in
         let t = link-taken h n l y ch e o (omega (arith, m, r)) in
         let z : after_sending (at ch) l.command l.buffer ≡ at next =
         sent-taken ch l.command l.buffer y.frame u y.shape t ∙ ap (λ (d : List ℕ). at (extended ch y.frame.header d)) y.carries in
@@ -359,7 +356,7 @@ module _ (img : List ℕ) (s : Session) where
 
 -- the last goes on with a chain of its header, where the join fits
 last_goes : (ch : Chain) (f : Frame) → is_link f.header ≡ false → head_fits f.header ≡ true → goes_on ch f.header ≡ true
-    → length (so_far ch) + f.lc ≤ 1024 → turn ch f ≡ Goes
+    → length (so_far ch) + f.lc ≤ 1024 → turn ch f ≡ (Ok Goes)
 unfolding turn last_turn in_order join_fits class_of head_fits
 last_goes NoChain f l e o r = simp l
 last_goes (Links i p q bs) f l e o r =
@@ -369,11 +366,11 @@ last_goes (Links i p q bs) f l e o r =
     simp (l, z, le-leb (length bs + f.lc) 1024 r)
 
 -- without a chain any command does that is no link
-alone_goes : (f : Frame) → is_link f.header ≡ false → turn NoChain f ≡ Goes
+alone_goes : (f : Frame) → is_link f.header ≡ false → turn NoChain f ≡ (Ok Goes)
 unfolding turn
 alone_goes f l = simp l
 
-module _ (img : List ℕ) (s : Session) (ch : Chain) (cmd : List ℕ) (f : Frame) (e : shape_of cmd ≡ Good f) (t : turn ch f ≡ Goes) where
+module _ (img : List ℕ) (s : Session) (ch : Chain) (cmd : List ℕ) (f : Frame) (e : shape_of cmd ≡ Some f) (t : turn ch f ≡ (Ok Goes)) where
   gone-data : data_of ch cmd ≡ so_far ch ++ part cmd f.from f.lc
   unfolding data_of
   gone-data = simp e
@@ -419,38 +416,38 @@ module _ (img : List ℕ) (s : Session) (whole buf : List ℕ) (f : Frame) (ls :
       → done (decide img s ch last) img s (data_of ch last) buf ≡ done (decide img s NoChain whole) img s (data_of NoChain whole) buf
       → step img s ch last buf ≡ step img s NoChain whole buf
   unfolding step step_by
-  same_step ch a e = ap (λ (v : Verdict). step_by v img s ch last buf) (verdict_same img s ch (length buf) a) ∙ go (verdict_on img s NoChain (length buf))
+  same_step ch a e = ap (λ (v : Result (Unit {0}) Refusal). step_by v img s ch last buf) (verdict_same img s ch (length buf) a) ∙ go (verdict_on img s NoChain (length buf))
     where
-      go : (v : Verdict) → step_by v img s ch last buf ≡ step_by v img s NoChain whole buf
-      go Accepted = e
-      go (Refused r) = refl
+      go : (v : Result (Unit {0}) Refusal) → step_by v img s ch last buf ≡ step_by v img s NoChain whole buf
+      go (Ok tt) = e
+      go (Err r) = refl
 
   -- without a chain there is none afterwards
   none_after : chain_after img s NoChain last (length buf) ≡ NoChain
   unfolding chain_after
   none_after = go (verdict_on img s NoChain (length buf))
     where
-      go : (v : Verdict) → chain_after_by v NoChain last ≡ NoChain
-      go Accepted = gone-ends img s NoChain last end c.last_shape (alone_goes end last-no-link)
-      go (Refused r) = refl
+      go : (v : Result (Unit {0}) Refusal) → chain_after_by v NoChain last ≡ NoChain
+      go (Ok tt) = gone-ends img s NoChain last end c.last_shape (alone_goes end last-no-link)
+      go (Err r) = refl
 
   -- steps 2 to 4 fail: the links are stopped, and the last gets the status word of the whole
   unfit-ends : head_fits f.header ≡ false → Ends (at img s NoChain)
   unfolding done
   unfit-ends n =
-      let a : decide img s NoChain last ≡ Status (early_word f.header) =
+      let a : decide img s NoChain last ≡ Err (early_word f.header) =
       gone-decided img s NoChain last end c.last_shape (alone_goes end last-no-link)
       ∙ early img s (whole_frame NoChain end) own (ap head_fits c.last_header ∙ n)
-      ∙ ap (λ (h : Header). Status (early_word h)) c.last_header in
-      let b : decide img s NoChain whole ≡ Status (early_word f.header) = whole-decided ∙ early img s (whole_frame NoChain f) all n in
+      ∙ ap (λ (h : Header). Err (early_word h)) c.last_header in
+      let b : decide img s NoChain whole ≡ Err (early_word f.header) = whole-decided ∙ early img s (whole_frame NoChain f) all n in
       (same_step NoChain refl (simp (a, b)), λ l. none_after)
 
   -- the links are refused, and so is the last
-  refused-ends : {r : Refusal} → verdict_on img s NoChain 2050 ≡ Refused r → Ends (at img s NoChain)
+  refused-ends : {r : Refusal} → verdict_on img s NoChain 2050 ≡ Err r → Ends (at img s NoChain)
   unfolding step step_by
   refused-ends {r} e = (by_cases (ltb (length buf) 2050) short long, λ l. none_after)
     where
-      refusing : {q : Refusal} → verdict_on img s NoChain (length buf) ≡ Refused q → step img s NoChain last buf ≡ step img s NoChain whole buf
+      refusing : {q : Refusal} → verdict_on img s NoChain (length buf) ≡ Err q → step img s NoChain last buf ≡ step img s NoChain whole buf
       refusing v = simp v
 
       short : ltb (length buf) 2050 ≡ true → step img s NoChain last buf ≡ step img s NoChain whole buf
@@ -460,13 +457,13 @@ module _ (img : List ℕ) (s : Session) (whole buf : List ℕ) (f : Frame) (ls :
       long z = refusing {q = r} (verdict-long img s (length buf) (ltb-false (length buf) 2050 z) ∙ e)
 
   -- the links are taken, and the last does what the whole does
-  joined-ends : verdict_on img s NoChain 2050 ≡ Accepted → head_fits f.header ≡ true → (ch : Chain) → chain_fits ch ≡ true → goes_on ch f.header ≡ true
+  joined-ends : verdict_on img s NoChain 2050 ≡ (Ok tt) → head_fits f.header ≡ true → (ch : Chain) → chain_fits ch ≡ true → goes_on ch f.header ≡ true
       → so_far ch ≡ pieces ls → Ends (at img s ch)
   unfolding chain_after
   joined-ends v e ch a o k =
       let d : so_far ch ++ own ≡ all = ap (λ (l : List ℕ). l ++ own) k ∙ c.all_data in
       let m : length (so_far ch) + end.lc ≡ 0 + f.lc = omega (arith, sym (length-append (so_far ch) own), own_length, all-length, ap length d) in
-      let t : turn ch end ≡ Goes =
+      let t : turn ch end ≡ (Ok Goes) =
       last_goes ch end last-no-link (ap head_fits c.last_header ∙ e) (ap (goes_on ch) c.last_header ∙ o)
       (omega (arith, m, (shape_facts whole (shape_of whole) f refl c.shape).few)) in
       let x : decide img s ch last ≡ decide img s NoChain whole =
@@ -475,8 +472,8 @@ module _ (img : List ℕ) (s : Session) (whole buf : List ℕ) (f : Frame) (ls :
       ∙ ap (by_class img s (whole_frame NoChain f)) d
       ∙ sym whole-decided in
       let y : data_of ch last ≡ data_of NoChain whole = gone-data img s ch last end c.last_shape t ∙ d ∙ sym (gone-data img s NoChain whole f c.shape (alone_goes f c.no_link)) in (
-        same_step ch a (ap₂ (λ (z : Action) (l : List ℕ). done z img s l buf) x y),
-        λ l. ap (λ (w : Verdict). chain_after_by w ch last) (verdict_same img s ch (length buf) a ∙ verdict-long img s (length buf) l ∙ v)
+        same_step ch a (ap₂ (λ (z : Result Action ℕ) (l : List ℕ). done z img s l buf) x y),
+        λ l. ap (λ (w : Result (Unit {0}) Refusal). chain_after_by w ch last) (verdict_same img s ch (length buf) a ∙ verdict-long img s (length buf) l ∙ v)
             ∙ gone-ends img s ch last end c.last_shape t,
       )
 
@@ -493,10 +490,10 @@ module _ (img : List ℕ) (s : Session) (whole buf : List ℕ) (f : Frame) (ls :
           → Ends (after_links (at img s NoChain) ls)
       none k = subst Ends (sym (links-none img s h n k ls c.links))
 
-      fit : head_fits h ≡ true → (v : Verdict) → verdict_on img s NoChain 2050 ≡ v → Ends (after_links (at img s NoChain) ls)
-      fit e (Refused r) v =
+      fit : head_fits h ≡ true → (v : Result (Unit {0}) Refusal) → verdict_on img s NoChain 2050 ≡ v → Ends (after_links (at img s NoChain) ls)
+      fit e (Err r) v =
           none (λ l x. sent-refused img s NoChain l.command l.buffer {r = r} (verdict-long img s (length l.buffer) x.long ∙ v)) (refused-ends {r = r} v)
-      fit e Accepted v =
+      fit e (Ok tt) v =
           let r : length {A = ℕ} [] + length (pieces ls) ≤ 1024 =
           omega (arith, length-append (pieces ls) own, ap length c.all_data, all-length, (shape_facts whole (shape_of whole) f refl c.shape).few) in
           let b = links-join img s h n v e ls NoChain c.links refl refl r in

@@ -5,11 +5,11 @@ use mathlib.Core.List.{List, ◌++◌}
 use Prim.Native.Nat.{ℕ}
 use lib.ListN.{length, drop}
 use Rattle.store_move.specs.Moving.{moved, move_card, move_card_into}
-use Rattle.store_move.specs.declared.Moved.TheVariants.{Image}
 use Rattle.store_move.proofs.Moves.{Accepted, move_card_facts}
 use Rattle.store_move_laws.specs.Same.{heads}
 use Rattle.store_move_laws.proofs.Laws.{moved-well_formed, moved-rooms, moved-files, moved-records, moved-state, moved-written, moved-content, moved-free, new_records, new_biometrics, same_sizes, same-moved, moved_twice, twice_moved, image_target, image-first}
 use Rattle.promises.specs.Promises.{MovedCard, MoveDone, SameSizes, MoveTwice}
+use Rattle.std.specs.Prelude.{Ok}
 
 pub move_done : MoveDone
 move_done old list t n e = subst (MovedCard old list t n) (sym (image-first old list t n e)) (go (move_card_facts old list (length t) n e))
@@ -41,7 +41,7 @@ same old t o z h =
 pub twice : MoveTwice
 twice old a b t u n m e f =
     let i = image-first old a t n e in
-    let h : move_card (moved old a) b (length u) ≡ Image m = ap (λ (l : List ℕ). move_card l b (length u)) (sym i) ∙ f in
+    let h : move_card (moved old a) b (length u) ≡ Ok m = ap (λ (l : List ℕ). move_card l b (length u)) (sym i) ∙ f in
     let g = move_card_facts old a (length t) n e in
     let q = move_card_facts (moved old a) b (length u) m h in
     let c = twice_moved old a b g q in (

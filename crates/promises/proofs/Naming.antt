@@ -14,8 +14,6 @@ use Rattle.base.specs.Choice.{all_of}
 use Rattle.base.proofs.Cases.{by_cases, if_else_ind, false-true, and_left, and_right, all_of_facts, all_of_accepted}
 use Rattle.store_kinds.specs.Rules.{biometrics, rules, first_rule, rule_of, present_by, is_biometrics, biometrics_kind}
 use Rattle.store_kinds.specs.declared.rules.Rule.{Rule}
-use Rattle.store_kinds.specs.declared.rules.Ruled.{Ruled}
-use Rattle.store_kinds.specs.declared.rules.Ruled.TheVariants.{Is, Nothing}
 use Rattle.store_kinds.specs.declared.rules.Key.{Key}
 use Rattle.store_kinds.specs.declared.rules.Key.TheVariants.{Kind as ByKind, Id as ById, Short as ByShort}
 use Rattle.store_kinds.proofs.Table.{Regular, rule_key, rule-listed, listed_regular}
@@ -28,8 +26,6 @@ use Rattle.store_files.specs.declared.Transparent.{Transparent}
 use Rattle.store_files.specs.declared.Transparent.TheVariants.{Info, Dir, Biometrics}
 use Rattle.store_files.specs.declared.File.{File}
 use Rattle.store_files.specs.declared.File.TheVariants.{RecordFile, TransparentFile}
-use Rattle.store_files.specs.declared.Lookup.{Lookup}
-use Rattle.store_files.specs.declared.Lookup.TheVariants.{Known, NoFile}
 use Rattle.store_files.proofs.Meant.{Found, FileOk, by_id_id}
 use Rattle.machine_session.specs.Session.{is_current, application_fits, session_fits}
 use Rattle.machine_session.specs.Resolve.{meant_by, meant_at, file_meant, may_record, may_read, may_inspect, activated, writable, record_by, transparent_by, biometrics_by, file_by, resolve_record, resolve_transparent, resolve_biometrics, resolve_file}
@@ -39,20 +35,11 @@ use Rattle.machine_session.specs.declared.Session.{Session}
 use Rattle.machine_session.specs.declared.Named.{Named}
 use Rattle.machine_session.specs.declared.Named.TheVariants.{Current, Short, Id}
 use Rattle.machine_session.specs.declared.Access.{Access}
-use Rattle.machine_session.specs.declared.Meant.{Meant}
-use Rattle.machine_session.specs.declared.Meant.TheVariants.{NotMeant, TheFile}
-use Rattle.machine_session.specs.declared.ResolvedRecord.{ResolvedRecord}
-use Rattle.machine_session.specs.declared.ResolvedRecord.TheVariants.{RecordStop, RecordAt}
-use Rattle.machine_session.specs.declared.ResolvedTransparent.{ResolvedTransparent}
-use Rattle.machine_session.specs.declared.ResolvedTransparent.TheVariants.{TransparentStop, TransparentAt}
-use Rattle.machine_session.specs.declared.ResolvedBiometrics.{ResolvedBiometrics}
-use Rattle.machine_session.specs.declared.ResolvedBiometrics.TheVariants.{BiometricsStop, BiometricsAt}
-use Rattle.machine_session.specs.declared.ResolvedFile.{ResolvedFile}
-use Rattle.machine_session.specs.declared.ResolvedFile.TheVariants.{FileStop, FileAt}
 use Rattle.machine_session.proofs.Steps.{in_order-each, RecordOk, resolve_record-well_formed, FileResolved, BiometricsResolved, TransparentResolved}
 use Rattle.machine_action.specs.Tests.{or_current}
 use Rattle.machine_record.specs.SearchRecord.{search_short, search_named}
 use Rattle.promises.specs.Files.{application_of_file, is_short_of, goes_by, is_meant, is_meant_by_p2, is_meant_by_byte, is_meant_by_search, is_meant_row, is_meant_kind, Permitted, is_there, Inspected, WritesTo}
+use Rattle.std.specs.Prelude.{Option, Some, None, Result, Ok, Err}
 
 -- ---- what a look-up finds is in the application, and has the id or the short id
 
@@ -73,12 +60,12 @@ home_biometrics img a i =
     if_else_ind (Found (Home a)) (all_of tests) (λ h. eq-eqb biometrics a (sym (eqb-true a biometrics (all_of_facts tests h).0))) (λ h. tt)
 
 -- what is found by a rule
-found-ruled : (P : File → Type 0) (img : List ℕ) (key : Key) (other : Lookup) → ((r : Rule) → rule_of key ≡ Is r → P (RecordFile r)) → Found P other → Found P (ruled img (rule_of key) other)
+found-ruled : (P : File → Type 0) (img : List ℕ) (key : Key) (other : Option File) → ((r : Rule) → rule_of key ≡ Some r → P (RecordFile r)) → Found P other → Found P (ruled img (rule_of key) other)
 found-ruled P img key other h o = go (rule_of key) refl
   where
-    go : (q : Ruled) → rule_of key ≡ q → Found P (ruled img q other)
-    go Nothing e = o
-    go (Is r) e = if_else_ind (Found P) (has img r.kind) (λ _. h r e) (λ _. tt)
+    go : (q : Option Rule) → rule_of key ≡ q → Found P (ruled img q other)
+    go None e = o
+    go (Some r) e = if_else_ind (Found P) (has img r.kind) (λ _. h r e) (λ _. tt)
 
 by_id_home : (img : List ℕ) (a i : ℕ) → Found (Home a) (by_id img a i)
 unfolding by_id application_of_file
@@ -90,7 +77,7 @@ by_short_home : (img : List ℕ) (a x : ℕ) → Found (Home a) (by_short img a 
 unfolding by_short application_of_file
 by_short_home img a x =
     if_else_ind (Found (Home a)) (eqb a 0) (home_master a x 0x01 0x1E)
-    (λ _. found-ruled (Home a) img (ByShort a x) NoFile (λ r e. and_left (eqb r.application a) (eqb r.short x) (rule_key (ByShort a x) r e)) tt)
+    (λ _. found-ruled (Home a) img (ByShort a x) None (λ r e. and_left (eqb r.application a) (eqb r.short x) (rule_key (ByShort a x) r e)) tt)
 
 abbrev Shorted : ℕ → File → Type 0
 Shorted x f = is_short_of f x ≡ true
@@ -100,22 +87,22 @@ unfolding by_short master_by is_short_of
 by_short-short img a x =
     if_else_ind (Found (Shorted x)) (eqb a 0)
     (λ _. if_else_ind (Found (Shorted x)) (eqb x 0x01) (λ h. h) (λ _. if_else_ind (Found (Shorted x)) (eqb x 0x1E) (λ h. h) (λ _. tt)))
-    (λ _. found-ruled (Shorted x) img (ByShort a x) NoFile (λ r e. and_right (eqb r.application a) (eqb r.short x) (rule_key (ByShort a x) r e)) tt)
+    (λ _. found-ruled (Shorted x) img (ByShort a x) None (λ r e. and_right (eqb r.application a) (eqb r.short x) (rule_key (ByShort a x) r e)) tt)
 
 -- ---- step 7
 
-abbrev Means : Session → Named → Meant → Type 0
-Means s n (NotMeant w) = Unit {0}
-Means s n (TheFile f) = is_meant s n f ≡ true
+abbrev Means : Session → Named → Result File ℕ → Type 0
+Means s n (Err w) = Unit {0}
+Means s n (Ok f) = is_meant s n f ≡ true
 
-looked : (s : Session) (n : Named) (l : Lookup) → Found (Home s.application) l → Found (λ f. goes_by s f n ≡ true) l → Means s n (meant_by l)
+looked : (s : Session) (n : Named) (l : Option File) → Found (Home s.application) l → Found (λ f. goes_by s f n ≡ true) l → Means s n (meant_by l)
 unfolding is_meant
-looked s n (Known f) h g = all_of_accepted _ (h, (g, tt))
-looked s n NoFile h g = tt
+looked s n (Some f) h g = all_of_accepted _ (h, (g, tt))
+looked s n None h g = tt
 
-found_map : {P Q : File → Type 0} (l : Lookup) → ((f : File) → P f → Q f) → Found P l → Found Q l
-found_map (Known f) h p = h f p
-found_map NoFile h p = tt
+found_map : {P Q : File → Type 0} (l : Option File) → ((f : File) → P f → Q f) → Found P l → Found Q l
+found_map (Some f) h p = h f p
+found_map None h p = tt
 
 module _ (img : List ℕ) (s : Session) where
   file_meant-means : (n : Named) → Means s n (file_meant img s n)
@@ -138,48 +125,48 @@ module _ (img : List ℕ) (s : Session) where
 
   -- ---- steps 8 and 9
 
-  abbrev RecordMeans : Named → ResolvedRecord → Type 0
-  RecordMeans n (RecordStop w) = Unit {0}
-  RecordMeans n (RecordAt r) = is_meant s n (RecordFile r) ≡ true
+  abbrev RecordMeans : Named → Result Rule ℕ → Type 0
+  RecordMeans n (Err w) = Unit {0}
+  RecordMeans n (Ok r) = is_meant s n (RecordFile r) ≡ true
 
-  abbrev TransparentMeans : Named → ResolvedTransparent → Type 0
-  TransparentMeans n (TransparentStop w) = Unit {0}
-  TransparentMeans n (TransparentAt t) = is_meant s n (TransparentFile t) ≡ true
+  abbrev TransparentMeans : Named → Result Transparent ℕ → Type 0
+  TransparentMeans n (Err w) = Unit {0}
+  TransparentMeans n (Ok t) = is_meant s n (TransparentFile t) ≡ true
 
-  abbrev BiometricsMeans : Named → ResolvedBiometrics → Type 0
-  BiometricsMeans n (BiometricsStop w) = Unit {0}
-  BiometricsMeans n (BiometricsAt k) = is_meant s n (TransparentFile (Biometrics k)) ≡ true
+  abbrev BiometricsMeans : Named → Result ℕ ℕ → Type 0
+  BiometricsMeans n (Err w) = Unit {0}
+  BiometricsMeans n (Ok k) = is_meant s n (TransparentFile (Biometrics k)) ≡ true
 
-  abbrev FileMeans : Named → ResolvedFile → Type 0
-  FileMeans n (FileStop w) = Unit {0}
-  FileMeans n (FileAt f) = is_meant s n f ≡ true
+  abbrev FileMeans : Named → Result File ℕ → Type 0
+  FileMeans n (Err w) = Unit {0}
+  FileMeans n (Ok f) = is_meant s n f ≡ true
 
-  pub record_meant : (x : Access) (n : Named) (r : Rule) → resolve_record img s x n ≡ RecordAt r → is_meant s n (RecordFile r) ≡ true
+  pub record_meant : (x : Access) (n : Named) (r : Rule) → resolve_record img s x n ≡ Ok r → is_meant s n (RecordFile r) ≡ true
   unfolding resolve_record
   record_meant x n r e = subst (RecordMeans n) e (go (file_meant img s n) (file_meant-means n))
     where
-      go : (m : Meant) → Means s n m → RecordMeans n (record_by s x m)
-      go (NotMeant w) h = tt
-      go (TheFile (TransparentFile t)) h = tt
-      go (TheFile (RecordFile q)) h = if_else_ind (RecordMeans n) (may_record s x q) (λ _. h) (λ _. tt)
+      go : (m : Result File ℕ) → Means s n m → RecordMeans n (record_by s x m)
+      go (Err w) h = tt
+      go (Ok (TransparentFile t)) h = tt
+      go (Ok (RecordFile q)) h = if_else_ind (RecordMeans n) (may_record s x q) (λ _. h) (λ _. tt)
 
   -- and one of the table
-  pub record_listed : (x : Access) (n : Named) (r : Rule) → resolve_record img s x n ≡ RecordAt r → Memᴰ r rules
+  pub record_listed : (x : Access) (n : Named) (r : Rule) → resolve_record img s x n ≡ Ok r → Memᴰ r rules
   record_listed x n r e = rule-listed (ByKind r.kind) r (subst (RecordOk img s x) e (resolve_record-well_formed img s x n)).file.ok.by_kind
 
-  pub record_permitted : (x : Access) (n : Named) (r : Rule) → resolve_record img s x n ≡ RecordAt r → Permitted s x r
+  pub record_permitted : (x : Access) (n : Named) (r : Rule) → resolve_record img s x n ≡ Ok r → Permitted s x r
   record_permitted x n r e = record { listed = record_listed x n r e; right = (subst (RecordOk img s x) e (resolve_record-well_formed img s x n)).allowed }
 
-  pub transparent_meant : (n : Named) (t : Transparent) → resolve_transparent img s n ≡ TransparentAt t → is_meant s n (TransparentFile t) ≡ true
+  pub transparent_meant : (n : Named) (t : Transparent) → resolve_transparent img s n ≡ Ok t → is_meant s n (TransparentFile t) ≡ true
   unfolding resolve_transparent
   transparent_meant n t e = subst (TransparentMeans n) e (go (file_meant img s n) (file_meant-means n))
     where
-      go : (m : Meant) → Means s n m → TransparentMeans n (transparent_by img s m)
-      go (NotMeant w) h = tt
-      go (TheFile (RecordFile q)) h = tt
-      go (TheFile (TransparentFile u)) h = if_else_ind (TransparentMeans n) (may_read img s u) (λ _. h) (λ _. tt)
+      go : (m : Result File ℕ) → Means s n m → TransparentMeans n (transparent_by img s m)
+      go (Err w) h = tt
+      go (Ok (RecordFile q)) h = tt
+      go (Ok (TransparentFile u)) h = if_else_ind (TransparentMeans n) (may_read img s u) (λ _. h) (λ _. tt)
 
-  pub biometrics-meant : (n : Named) (k : ℕ) → resolve_biometrics img s n ≡ BiometricsAt k → is_meant s n (TransparentFile (Biometrics k)) ≡ true
+  pub biometrics-meant : (n : Named) (k : ℕ) → resolve_biometrics img s n ≡ Ok k → is_meant s n (TransparentFile (Biometrics k)) ≡ true
   unfolding resolve_biometrics writable
   biometrics-meant n k e = subst (BiometricsMeans n) e (go (file_meant img s n) (file_meant-means n))
     where
@@ -188,18 +175,18 @@ module _ (img : List ℕ) (s : Session) where
       write Dir h = tt
       write (Biometrics j) h = in_order-each (BiometricsMeans n) _ _ (tt, (tt, tt)) (λ _. h)
 
-      go : (m : Meant) → Means s n m → BiometricsMeans n (biometrics_by img s m)
-      go (NotMeant w) h = tt
-      go (TheFile (RecordFile q)) h = tt
-      go (TheFile (TransparentFile u)) h = write u h
+      go : (m : Result File ℕ) → Means s n m → BiometricsMeans n (biometrics_by img s m)
+      go (Err w) h = tt
+      go (Ok (RecordFile q)) h = tt
+      go (Ok (TransparentFile u)) h = write u h
 
-  pub file-meant : (n : Named) (f : File) → resolve_file img s n ≡ FileAt f → is_meant s n f ≡ true
+  pub file-meant : (n : Named) (f : File) → resolve_file img s n ≡ Ok f → is_meant s n f ≡ true
   unfolding resolve_file
   file-meant n f e = subst (FileMeans n) e (go (file_meant img s n) (file_meant-means n))
     where
-      go : (m : Meant) → Means s n m → FileMeans n (file_by img s m)
-      go (NotMeant w) h = tt
-      go (TheFile g) h = if_else_ind (FileMeans n) (may_inspect img s g) (λ _. h) (λ _. tt)
+      go : (m : Result File ℕ) → Means s n m → FileMeans n (file_by img s m)
+      go (Err w) h = tt
+      go (Ok g) h = if_else_ind (FileMeans n) (may_inspect img s g) (λ _. h) (λ _. tt)
 
   -- what steps 7 to 9 answer of a file that is read, and of one that is written
 
@@ -210,14 +197,14 @@ module _ (img : List ℕ) (s : Session) where
   is-there (TransparentFile Dir) h = refl
   is-there (TransparentFile (Biometrics n)) h = h.stands
 
-  pub file_inspected : (n : Named) (f : File) → resolve_file img s n ≡ FileAt f → FileResolved img s f → Inspected img s n f
+  pub file_inspected : (n : Named) (f : File) → resolve_file img s n ≡ Ok f → FileResolved img s f → Inspected img s n f
   file_inspected n f e h = record { meant = file-meant n f e; there = is-there f h.file.ok; right = h.allowed }
 
-  pub transparent_inspected : (n : Named) (t : Transparent) → resolve_transparent img s n ≡ TransparentAt t → TransparentResolved img s t → Inspected img s n (TransparentFile t)
+  pub transparent_inspected : (n : Named) (t : Transparent) → resolve_transparent img s n ≡ Ok t → TransparentResolved img s t → Inspected img s n (TransparentFile t)
   unfolding may_inspect
   transparent_inspected n t e h = record { meant = transparent_meant n t e; there = is-there (TransparentFile t) h.file.ok; right = h.allowed }
 
-  pub biometrics-writes : (n : Named) (m : ℕ) → resolve_biometrics img s n ≡ BiometricsAt m → BiometricsResolved img s m → WritesTo img s n m
+  pub biometrics-writes : (n : Named) (m : ℕ) → resolve_biometrics img s n ≡ Ok m → BiometricsResolved img s m → WritesTo img s n m
   biometrics-writes n m e h =
       record { meant = biometrics-meant n m e; there = h.file.ok.stands; deactivated = not-true (activated img m) h.not-activated; right = h.allowed }
 
@@ -268,11 +255,11 @@ module _ (s : Session) (r : Rule) (m : Memᴰ r rules) where
   unfolding is_meant
   goes n h = (all_of_facts _ h).1.0
 
-  by_short_id : (x : ℕ) → is_meant s (Short x) (RecordFile r) ≡ true → rule_of (ByShort s.application x) ≡ Is r
+  by_short_id : (x : ℕ) → is_meant s (Short x) (RecordFile r) ≡ true → rule_of (ByShort s.application x) ≡ Some r
   unfolding is_short_of
   by_short_id x h = ap₂ (λ (a y : ℕ). rule_of (ByShort a y)) (sym (home (Short x) h)) (sym (eqb-true _ _ (goes (Short x) h))) ∙ table.by_short_id
 
-  by_file_id : (i : ℕ) → r.application ≡ s.application → r.id ≡ i → rule_of (ById s.application i) ≡ Is r
+  by_file_id : (i : ℕ) → r.application ≡ s.application → r.id ≡ i → rule_of (ById s.application i) ≡ Some r
   by_file_id i e z = ap₂ (λ (a y : ℕ). rule_of (ById a y)) (sym e) (sym z) ∙ table.by_file_id
 
   in-application : r.application ≡ s.application → eqb s.application 0 ≡ false
@@ -287,16 +274,16 @@ module _ (s : Session) (r : Rule) (m : Memᴰ r rules) where
       present_by-has (has img) (ByKind r.kind) r table.by_kind (subst (λ (b : ℕ). present_by (has img) b ≡ true) (sym e) p)
 
   module _ (img : List ℕ) (fits : session_fits img s ≡ true) (x : Access) (right : may_record s x r ≡ true) where
-    pub meant_resolved : (n : Named) → is_meant s n (RecordFile r) ≡ true → resolve_record img s x n ≡ RecordAt r
+    pub meant_resolved : (n : Named) → is_meant s n (RecordFile r) ≡ true → resolve_record img s x n ≡ Ok r
     unfolding resolve_record file_meant by_short by_id id_of is_current
     meant_resolved (Short y) h = simp (in-application (home (Short y) h), by_short_id y h, stands img fits (home (Short y) h), right)
     meant_resolved (Id i) h = simp (in-application (home (Id i) h), by_file_id i (home (Id i) h) (eqb-true _ _ (goes (Id i) h)), stands img fits (home (Id i) h), right)
     meant_resolved Current h = at s.place (home Current h) (goes Current h)
       where
-        on : (i : ℕ) → r.application ≡ s.application → eqb i r.id ≡ true → record_by s x (meant_by (by_id img s.application i)) ≡ RecordAt r
+        on : (i : ℕ) → r.application ≡ s.application → eqb i r.id ≡ true → record_by s x (meant_by (by_id img s.application i)) ≡ Ok r
         on i e c = simp (in-application e, by_file_id i e (sym (eqb-true i r.id c)), stands img fits e, right)
 
-        at : (p : Place) → r.application ≡ s.application → is_current p r.id ≡ true → record_by s x (meant_at img s.application p) ≡ RecordAt r
+        at : (p : Place) → r.application ≡ s.application → is_current p r.id ≡ true → record_by s x (meant_at img s.application p) ≡ Ok r
         at Nowhere e c = false-true c
         at (OnFile i) e c = on i e c
         at (OnRecord i n) e c = on i e c
@@ -307,7 +294,7 @@ module _ (s : Session) (x : ℕ) where
   abbrev IsMeant : File → Type 0
   IsMeant f = is_meant s (Short x) f ≡ true
 
-  same-rule : (q r : Rule) → Memᴰ q rules → Memᴰ r rules → IsMeant (RecordFile q) → IsMeant (RecordFile r) → Is q ≡ Is r
+  same-rule : (q r : Rule) → Memᴰ q rules → Memᴰ r rules → IsMeant (RecordFile q) → IsMeant (RecordFile r) → Some q ≡ Some r
   same-rule q r a b h k = sym (by_short_id s q a x h) ∙ by_short_id s r b x k
 
   -- a transparent file has a short id in the master file only, and no record file is there
@@ -320,7 +307,7 @@ module _ (s : Session) (x : ℕ) where
   not-master : {A : Type 0} (r : Rule) → Memᴰ r rules → IsMeant (RecordFile r) → s.application ≡ 0 → A
   not-master r m h z = let l = (listed_regular r m).first in absurd (omega (arith, home s r m (Short x) h))
 
-  found-master : (t : Transparent) → IsMeant (TransparentFile t) → master_by 0x01 0x1E x ≡ Known (TransparentFile t)
+  found-master : (t : Transparent) → IsMeant (TransparentFile t) → master_by 0x01 0x1E x ≡ Some (TransparentFile t)
   unfolding master_by is_meant is_short_of
   found-master Info h = ap (master_by 0x01 0x1E) (eqb-true x 0x01 (all_of_facts _ h).1.0)
   found-master Dir h = ap (master_by 0x01 0x1E) (eqb-true x 0x1E (all_of_facts _ h).1.0)
@@ -338,10 +325,10 @@ byte_means_one s b f g m n h k = one-short s (search_short b) f g m n (sym (byte
 -- ---- whatever name means a transparent file, step 7 looks for it as for its id
 
 module _ (img : List ℕ) (s : Session) where
-  abbrev pub by_its_id : Transparent → Meant
+  abbrev pub by_its_id : Transparent → Result File ℕ
   by_its_id t = meant_by (by_id img s.application (transparent_id t))
 
-  master-own : (x : ℕ) (t : Transparent) → is_meant s (Short x) (TransparentFile t) ≡ true → master_by 0x2F01 0x2F00 (transparent_id t) ≡ Known (TransparentFile t)
+  master-own : (x : ℕ) (t : Transparent) → is_meant s (Short x) (TransparentFile t) ≡ true → master_by 0x2F01 0x2F00 (transparent_id t) ≡ Some (TransparentFile t)
   unfolding master_by transparent_id is_meant is_short_of
   master-own x Info h = refl
   master-own x Dir h = refl
@@ -364,7 +351,7 @@ module _ (img : List ℕ) (s : Session) where
 -- a transparent file that the card has is found by its id
 
 -- the one record file of biometrics has another id
-no-rule : (i : ℕ) → 0x0200 ≤ i → rule_of (ById biometrics i) ≡ Nothing
+no-rule : (i : ℕ) → 0x0200 ≤ i → rule_of (ById biometrics i) ≡ None
 unfolding rule_of first_rule rules
 no-rule i h = simp (ne_eqb 0x011A i (λ e. omega (arith, e)))
 
@@ -379,7 +366,7 @@ numbered img n o h =
 
 module _ (img : List ℕ) (s : Session) (o : well_formed img ≡ true) where
   found-by-id : (t : Transparent) → eqb (application_of_file (TransparentFile t)) s.application ≡ true → is_there img (TransparentFile t) ≡ true
-      → by_id img s.application (transparent_id t) ≡ Known (TransparentFile t)
+      → by_id img s.application (transparent_id t) ≡ Some (TransparentFile t)
   unfolding by_id master_by transparent_id application_of_file is_there is_biometrics biometrics_by_id
   found-by-id Info h k = simp (eq-eqb s.application 0 (sym (eqb-true 0 s.application h)))
   found-by-id Dir h k = simp (eq-eqb s.application 0 (sym (eqb-true 0 s.application h)))
@@ -394,7 +381,7 @@ module _ (img : List ℕ) (s : Session) (o : well_formed img ≡ true) where
       all_of_accepted _ (refl, (le-leb 0x0201 i (omega arith), (le-leb i 0x0240 (omega arith), (k, tt)))) in
       simp (a, no-rule i (omega arith), same, tests)
 
-  pub inspected_resolved : (t : Transparent) (n : Named) → Inspected img s n (TransparentFile t) → resolve_transparent img s n ≡ TransparentAt t
+  pub inspected_resolved : (t : Transparent) (n : Named) → Inspected img s n (TransparentFile t) → resolve_transparent img s n ≡ Ok t
   unfolding resolve_transparent is_meant may_inspect
   inspected_resolved t n i = rw (meant-by_id img s t n i.meant) (simp (found-by-id t (all_of_facts _ i.meant).0 i.there, i.right))
 
@@ -406,7 +393,7 @@ one-current Nowhere i j a b = false-true a
 one-current (OnFile k) i j a b = sym (eqb-true k i a) ∙ eqb-true k j b
 one-current (OnRecord k n) i j a b = sym (eqb-true k i a) ∙ eqb-true k j b
 
-one-meant : (s : Session) (x : ℕ) (q r : Rule) → Memᴰ q rules → Memᴰ r rules → is_meant_by_p2 s x (RecordFile q) ≡ true → is_meant_by_p2 s x (RecordFile r) ≡ true → Is q ≡ Is r
+one-meant : (s : Session) (x : ℕ) (q r : Rule) → Memᴰ q rules → Memᴰ r rules → is_meant_by_p2 s x (RecordFile q) ≡ true → is_meant_by_p2 s x (RecordFile r) ≡ true → Some q ≡ Some r
 unfolding is_meant_by_p2 id_of
 one-meant s x q r a b =
     by_cases (eqb x 0)
@@ -421,9 +408,9 @@ kind-meant s x r m h k =
     (λ e. ap (λ (j : ℕ). is_meant_row s x (rule_of (ByKind j))) (sym (eqb-true _ _ e)) ∙ ap (is_meant_row s x) (listed_regular r m).by_kind ∙ h ∙ sym e)
     (λ e. go (rule_of (ByKind k)) refl e ∙ sym e)
   where
-    go : (y : Ruled) → rule_of (ByKind k) ≡ y → eqb r.kind k ≡ false → is_meant_row s x y ≡ false
-    go Nothing e n = refl
-    go (Is q) e n =
+    go : (y : Option Rule) → rule_of (ByKind k) ≡ y → eqb r.kind k ≡ false → is_meant_row s x y ≡ false
+    go None e n = refl
+    go (Some q) e n =
         by_cases (is_meant_by_p2 s x (RecordFile q))
         (λ t. let z : q ≡ r = (let y = one-meant s x q r (rule-listed (ByKind k) q e) m t h in cc) in
         false-true (sym n ∙ ap (λ (p : Rule). eqb p.kind k) (sym z) ∙ rule_key (ByKind k) q e))

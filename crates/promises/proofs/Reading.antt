@@ -17,24 +17,20 @@ use Rattle.store_kinds.specs.Rules.{is_biometrics}
 use Rattle.store_image.specs.Image.{body, well_formed, records_of}
 use Rattle.store_kinds.specs.declared.rules.Key.TheVariants.{Kind}
 use Rattle.store_kinds.specs.declared.rules.Rule.{Rule}
-use Rattle.store_kinds.specs.declared.rules.Ruled.TheVariants.{Is, Nothing}
 use Rattle.store_image.proofs.Laws.{rule_regular, biometrics_unruled, records-count, record_file, record_size}
 use Rattle.store_files.specs.Loops.{Stored}
 use Rattle.store_files.specs.declared.File.TheVariants.{RecordFile}
 use Rattle.machine_session.specs.Session.{record_number_at, current_record}
 use Rattle.machine_session.specs.declared.Place.{Place}
 use Rattle.machine_session.specs.declared.Place.TheVariants.{Nowhere, OnFile, OnRecord}
-use Rattle.machine_session.specs.declared.RecordNumber.{RecordNumber}
-use Rattle.machine_session.specs.declared.RecordNumber.TheVariants.{Number, NoNumber}
 use Rattle.machine_session.specs.declared.Access.TheVariants.{Read}
 use Rattle.machine_session.specs.declared.Session.{Session}
 use Rattle.machine_action.specs.Tests.{or_current}
 use Rattle.machine_record.specs.ReadRecord.{record_named}
-use Rattle.machine_apdu.specs.declared.Apdu.{Apdu}
 use Rattle.machine_apdu.specs.declared.Frame.{Frame}
 use Rattle.machine_dispatch.specs.Decide.{decide, data_by, data_of}
 use Rattle.machine_action.specs.declared.Action.{Action}
-use Rattle.machine_action.specs.declared.Action.TheVariants.{Status, SelectApplication, SelectFile, ReadBinary, UpdateBinary, Activate, AppendRecord, ReadRecord, SearchRecord, Report, ReadBinaryOdd}
+use Rattle.machine_action.specs.declared.Action.TheVariants.{SelectApplication, SelectFile, ReadBinary, UpdateBinary, Activate, AppendRecord, ReadRecord, SearchRecord, Report, ReadBinaryOdd}
 use Rattle.machine_dispatch.proofs.Allowing.{Pair, From, FromShape, ReadBy, decide-from}
 use Rattle.machine_reply_record.specs.Joined.{records_data}
 use Rattle.machine_reply_record.proofs.Joining.{joined-one}
@@ -49,6 +45,8 @@ use Rattle.promises.proofs.Whole.{whole_from}
 use Rattle.promises.proofs.Answering.{data_said, step_accepted, accepted_room, status_accepted}
 use Rattle.promises.proofs.Growing.{calls_held}
 use Rattle.promises.proofs.Naming.{record_meant, record_permitted, p2-meant}
+use Rattle.std.specs.Prelude.{Option, Some, None}
+use Rattle.std.specs.Prelude.{Result, Ok, Err}
 
 -- a record file is no biometrics file
 pub stored-records : (img : List ℕ) (r : Rule) → Stored img r → is_biometrics r.kind ≡ false
@@ -57,25 +55,25 @@ stored-records img r f =
     (λ b. absurd (is-not (sym (biometrics_unruled r.kind b) ∙ f.by_kind)))
     (λ b. b)
   where
-    is-not : Nothing ≡ Is r → ⊥
+    is-not : None ≡ Some r → ⊥
     is-not e = let z : ◌≡◌ {A = ℕ} 0 1 = cc in omega arith
 
 -- the number is P1, or the current record's
-record-named : (s : Session) (r : Rule) (p n : ℕ) → record_named s r p ≡ Number n → ((p ≡ 0 → ⊥) → n ≡ p) × (p ≡ 0 → s.place ≡ OnRecord r.id n)
+record-named : (s : Session) (r : Rule) (p n : ℕ) → record_named s r p ≡ Some n → ((p ≡ 0 → ⊥) → n ≡ p) × (p ≡ 0 → s.place ≡ OnRecord r.id n)
 unfolding record_named current_record
 record-named s r p n e = (
-  λ z. let h : Number p ≡ Number n = simp (ne_eqb p 0 z) at e in let y : p ≡ n = cc in sym y,
+  λ z. let h : Some p ≡ Some n = simp (ne_eqb p 0 z) at e in let y : p ≡ n = cc in sym y,
   λ z. go s.place (simp (eq-eqb p 0 z) at e),
 )
   where
-    no : {A : Type 0} → NoNumber ≡ Number n → A
+    no : {A : Type 0} → None ≡ Some n → A
     no h = absurd (let z : ◌≡◌ {A = ℕ} 0 1 = cc in omega arith)
 
-    go : (p : Place) → record_number_at p r.id ≡ Number n → p ≡ OnRecord r.id n
+    go : (p : Place) → record_number_at p r.id ≡ Some n → p ≡ OnRecord r.id n
     go Nowhere = no
     go (OnFile j) = no
     go (OnRecord j m) =
-        if_else_ind (λ (y : RecordNumber). y ≡ Number n → OnRecord j m ≡ OnRecord r.id n) (eqb j r.id)
+        if_else_ind (λ (y : Option ℕ). y ≡ Some n → OnRecord j m ≡ OnRecord r.id n) (eqb j r.id)
         (λ t h. let y : m ≡ n = cc in ap₂ OnRecord (eqb-true j r.id t) y)
         (λ t h. no h)
 
@@ -93,12 +91,12 @@ module _ (img : List ℕ) (s : Session) (ch : Chain) (cmd buf : List ℕ) (f : F
       ap (take 2048) (joined-one (records_of img r.kind) n l) ∙ take_all 2048 (nth (records_of img r.kind) n) (omega (arith, z.1, m.long))
 
   -- what is answered, and of which records
-  read-said : (r : Rule) (a b : ℕ) → data_in (done (ReadRecord r a b) img s d buf) ≡ records_data (records_of img r.kind) a b
+  read-said : (r : Rule) (a b : ℕ) → data_in (done (Ok (ReadRecord r a b)) img s d buf) ≡ records_data (records_of img r.kind) a b
   unfolding done
   read-said r a b = data_said 0x9000 (records_data (records_of img r.kind) a b) _ img buf (records_bound (records_of img r.kind) a b) room
 
   -- by the records that the file has
-  reads : (rs : ℕ → List (List ℕ)) → ((k : ℕ) → is_biometrics k ≡ false → records_of img k ≡ rs k) → (r : Rule) (a b : ℕ) → ReadBy img s f r a b → Reads s f rs (done (ReadRecord r a b) img s d buf)
+  reads : (rs : ℕ → List (List ℕ)) → ((k : ℕ) → is_biometrics k ≡ false → records_of img k ≡ rs k) → (r : Rule) (a b : ℕ) → ReadBy img s f r a b → Reads s f rs (done (Ok (ReadRecord r a b)) img s d buf)
   unfolding records_of
   reads rs same r a b h =
       let g = h.file.file.ok in
@@ -133,20 +131,20 @@ module _ (img : List ℕ) (s : Session) (ch : Chain) (cmd buf : List ℕ) (f : F
       false-true
       (sym e ∙ sym (ap₂ (λ (x y : ℕ). all_of (eqb x 0x00 ∷ eqb y 0xB2 ∷ [])) (eqb-true f.header.cla c p.0) (eqb-true f.header.ins i p.1)) ∙ q)
 
-  read-decided : (rs : ℕ → List (List ℕ)) → ((k : ℕ) → is_biometrics k ≡ false → records_of img k ≡ rs k) → is_pair f 0x00 0xB2 ≡ true → (x : Action) → From img s f d x
+  read-decided : (rs : ℕ → List (List ℕ)) → ((k : ℕ) → is_biometrics k ≡ false → records_of img k ≡ rs k) → is_pair f 0x00 0xB2 ≡ true → (x : Result Action ℕ) → From img s f d x
       → (done x img s d buf).answer.status ≡ 0x9000 → Reads s f rs (done x img s d buf)
   unfolding all_of
-  read-decided rs same q (Status w) h e = let z : w ≡ 0x9000 = unfold done says in e in absurd (omega (arith, ltb-true w 0x9000 h))
-  read-decided rs same q (SelectApplication a) h e = other 0x00 0xA4 h.0 q refl
-  read-decided rs same q (SelectFile g) h e = other 0x00 0xA4 h.0 q refl
-  read-decided rs same q (ReadBinary t a n) h e = other 0x00 0xB0 h.0 q refl
-  read-decided rs same q (UpdateBinary n w) h e = other 0x00 0xD7 h.0 q refl
-  read-decided rs same q (Activate n) h e = other 0x00 0x44 h.0 q refl
-  read-decided rs same q (AppendRecord r) h e = other 0x00 0xE2 h.0 q refl
-  read-decided rs same q (ReadRecord r a b) h e = reads rs same r a b h
-  read-decided rs same q (SearchRecord r x ne) h e = other 0x00 0xA2 h.pair q refl
-  read-decided rs same q (Report g n) h e = other 0x80 0x5E h.0 q refl
-  read-decided rs same q (ReadBinaryOdd t a n) h e = other 0x00 0xB1 h.0 q refl
+  read-decided rs same q (Err w) h e = let z : w ≡ 0x9000 = unfold done says in e in absurd (omega (arith, ltb-true w 0x9000 h))
+  read-decided rs same q (Ok (SelectApplication a)) h e = other 0x00 0xA4 h.0 q refl
+  read-decided rs same q (Ok (SelectFile g)) h e = other 0x00 0xA4 h.0 q refl
+  read-decided rs same q (Ok (ReadBinary t a n)) h e = other 0x00 0xB0 h.0 q refl
+  read-decided rs same q (Ok (UpdateBinary n w)) h e = other 0x00 0xD7 h.0 q refl
+  read-decided rs same q (Ok (Activate n)) h e = other 0x00 0x44 h.0 q refl
+  read-decided rs same q (Ok (AppendRecord r)) h e = other 0x00 0xE2 h.0 q refl
+  read-decided rs same q (Ok (ReadRecord r a b)) h e = reads rs same r a b h
+  read-decided rs same q (Ok (SearchRecord r x ne)) h e = other 0x00 0xA2 h.pair q refl
+  read-decided rs same q (Ok (Report g n)) h e = other 0x80 0x5E h.0 q refl
+  read-decided rs same q (Ok (ReadBinaryOdd t a n)) h e = other 0x00 0xB1 h.0 q refl
 
 pub reads-history : ReadsHistory
 reads-history img calls s ch cmd buf f o e q t =

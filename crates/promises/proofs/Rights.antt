@@ -10,20 +10,21 @@ use native.Mathlib.Omega.{arith}
 use lib.ListN.{length, get_or, take, drop, replicate, length-replicate, length-take}
 use lib.Seq.{sets}
 use lib.Dec.{ltb}
-use borrow.Author.Tests.{le-leb, lt-ltb, le-ltb, ltb-true, ltb-false, eqb-true}
+use borrow.Author.Tests.{le-leb, lt-ltb, le-ltb, ltb-true, ltb-false}
 use Rattle.base.specs.Choice.{all_of}
 use Rattle.base.specs.Bytes.{AllBytes, part, same_bytes, put}
-use Rattle.base.proofs.Cases.{by_cases}
+use Rattle.base.proofs.Cases.{by_cases, false-true}
 use Rattle.base.proofs.Runs.{part-sets, drop-sets_past, put_accepted, length-put}
+use Rattle.std.specs.Prelude.{Ok, Err, is_ok}
 use Rattle.objects_extensions.specs.declared.ExtensionFault.{ExtensionFault}
 use Rattle.objects_extensions.specs.declared.ExtensionFault.TheVariants.{Malformed, Twice}
 use Rattle.objects_extensions.specs.declared.Known.TheVariants.{Travel, Visa, Biometrics}
 use Rattle.objects_extensions.specs.Extensions.{Extension, rights_for, flag_for, certificate_data, RunOf, RunsOf}
 use Rattle.objects_extensions.specs.Faults.{extension_fault_number, ChainFault}
-use Rattle.objects_extensions.specs.Read.{is_whole, run_number, runs_on, chain_data, read_rights, read_rights_into}
+use Rattle.objects_extensions.specs.Read.{RunRead, rights_answer, runs_on, chain_data, read_rights, read_rights_into}
 use Rattle.objects_extensions.proofs.Chains.{chain_complete, chain_length, chain_fault, chain_or_fault}
 use Rattle.objects_extensions.proofs.Kept.{flag_is}
-use Rattle.objects_extensions.proofs.Runs.{not-whole, run-filled, certificate-length}
+use Rattle.objects_extensions.proofs.Runs.{run-filled, certificate-length}
 use Rattle.machine_rights.specs.Rights.{bit, flagged}
 use Rattle.machine_rights.specs.Chain.{certificate, cleared_bytes, cleared, no_rights, effective, same, is_cleared}
 use Rattle.machine_rights.proofs.Joining.{certificate_in, parts_of}
@@ -43,6 +44,10 @@ use Rattle.promises.proofs.Linking.{opening-bytes}
 fault_range : (w : ExtensionFault) → (7 ≤ extension_fault_number w) × (extension_fault_number w ≤ 8)
 fault_range Malformed = (omega arith, omega arith)
 fault_range Twice = (omega arith, omega arith)
+
+right-result : (r : RunRead) → is_ok r ≡ true → rights_result (rights_answer r) ≡ 0
+right-result (Ok _) e = refl
+right-result (Err w) e = false-true e
 
 one_not_zero : ◌≡◌ {A = ℕ} 1 (refusal_in 0) → ⊥
 unfolding refusal_in
@@ -72,7 +77,7 @@ module _ (f s t buf : List ℕ) where
   -- ---- one that is not
 
   module _ (h : 60 ≤ length buf) where
-    result-told : result ≡ run_number (runs_on f s t).read * 4294967296
+    result-told : result ≡ rights_result (rights_answer (runs_on f s t).read)
     unfolding read_rights
     result-told = rw (le-ltb (length buf) 60 h) refl
 
@@ -89,8 +94,8 @@ module _ (f s t buf : List ℕ) where
     zeros-written : 1 ≤ result → take 60 new ≡ replicate 60 0
     unfolding chain_data
     zeros-written e =
-        by_cases (is_whole (runs_on f s t).read)
-        (λ x. let n = eqb-true (run_number (runs_on f s t).read) 0 x in let r = result-told in absurd (omega arith))
+        by_cases (is_ok (runs_on f s t).read)
+        (λ x. let r = result-told ∙ right-result (runs_on f s t).read x in absurd (omega arith))
         (λ x. (written (simp x) refl).0)
 
     whole-result : (a b c : List Extension) → RunsOf a b c f s t → result ≡ 0
@@ -106,7 +111,7 @@ module _ (f s t buf : List ℕ) where
 
       fault_kept : drop 60 new ≡ drop 60 buf
       unfolding chain_data
-      fault_kept = (written {d = replicate 60 0} (rw (chain_fault f s t bf bs bt w x) (simp (not-whole w))) refl).1
+      fault_kept = (written {d = replicate 60 0} (rw (chain_fault f s t bf bs bt w x) refl) refl).1
 
   -- ---- three cases: the buffer is too short, the runs are in order, one has a fault
 

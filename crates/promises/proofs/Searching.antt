@@ -27,7 +27,6 @@ use Rattle.machine_session.specs.Session.{placed}
 use Rattle.machine_session.specs.declared.Session.{Session}
 use Rattle.machine_session.specs.declared.Place.TheVariants.{OnRecord}
 use Rattle.machine_session.specs.declared.Access.TheVariants.{Read}
-use Rattle.machine_session.specs.declared.ResolvedRecord.TheVariants.{RecordAt}
 use Rattle.machine_session.proofs.Steps.{RecordResolved, RecordOk, resolve_record-well_formed}
 use Rattle.machine_record.specs.SearchRecord.{file_in, search_named, search_hits, search_reply}
 use Rattle.machine_record.proofs.Searched.{search_status-none, search_status_over, search_status-found}
@@ -46,6 +45,7 @@ use Rattle.promises.proofs.Answering.{data_said, taken_accepted, accepted_room}
 use Rattle.promises.proofs.Deciding.{searching_resolved, search_reached, reached-outcome}
 use Rattle.promises.proofs.Growing.{calls_held}
 use Rattle.promises.proofs.Reading.{stored-records}
+use Rattle.std.specs.Prelude.{Ok}
 
 -- ---- the string stands in the record, from the offset on and within the number, exactly where the test of a match says so
 
@@ -262,7 +262,7 @@ leaves-none_out img calls s ch cmd buf f x r o t z =
     let q = c.query in
     let i = searching_resolved now s ch cmd buf f x r a z in
     let g : RecordResolved now s Read r = subst (RecordOk now s Read) i (resolve_record-well_formed now s Read (search_named x.file)) in
-    let u : step now s ch cmd buf ≡ searched now s (data_of ch cmd) buf r q f.ne = reached-outcome now s ch cmd buf f x c (RecordAt r) a i ∙ (unfold done in refl) in
+    let u : step now s ch cmd buf ≡ searched now s (data_of ch cmd) buf r q f.ne = reached-outcome now s ch cmd buf f x c (Ok r) a i ∙ (unfold done in refl) in
     let e : records_of now r.kind ≡ history r.kind img calls = h.records r.kind (stored-records now r g.file.ok) in
     subst (Names (history r.kind img calls) x f.ne) (sym u)
     (subst (λ (rs : List (List ℕ)). Names rs x f.ne (searched now s (data_of ch cmd) buf r q f.ne)) e

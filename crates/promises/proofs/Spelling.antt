@@ -19,11 +19,7 @@ use Rattle.machine_session.specs.Resolve.{resolve_record}
 use Rattle.machine_session.specs.Session.{placed}
 use Rattle.machine_session.specs.declared.Access.TheVariants.{Read}
 use Rattle.machine_session.specs.declared.Place.TheVariants.{OnRecord}
-use Rattle.machine_session.specs.declared.ResolvedRecord.{ResolvedRecord}
-use Rattle.machine_session.specs.declared.ResolvedRecord.TheVariants.{RecordStop, RecordAt}
 use Rattle.machine_session.specs.declared.Session.{Session}
-use Rattle.machine_session.specs.declared.Verdict.{Verdict}
-use Rattle.machine_session.specs.declared.Verdict.TheVariants.{Accepted, Refused}
 use Rattle.machine_session.proofs.Steps.{RecordResolved, RecordOk, resolve_record-well_formed}
 use Rattle.machine_apdu.specs.Status.{normal, no_match, wrong_length}
 use Rattle.machine_apdu.specs.declared.Frame.{Frame}
@@ -41,6 +37,8 @@ use Rattle.promises.specs.Promises.{SearchCommand, with_file, Alike, BothSpellin
 use Rattle.promises.proofs.Answering.{data_said, behind_said, accepted_room, accepted_facts}
 use Rattle.promises.proofs.Deciding.{Reached, search_reached, reached-outcome}
 use Rattle.promises.proofs.Searching.{numbers, hits_are, reply-is, file-short}
+use Rattle.std.specs.Prelude.{Result, Ok, Err}
+use Rattle.machine_session.specs.declared.Refusal.{Refusal}
 
 -- ---- outcomes that are alike
 
@@ -89,19 +87,19 @@ module _ (img : List ℕ) (s : Session) (buf : List ℕ) (f : Frame) (x : Search
   status r b = in_order ((leb 1 (length (matched r)), no_match) ∷ (leb (length (found_data (b ∷ []) (matched r))) f.ne, wrong_length) ∷ []) normal
 
   -- by what steps 7 to 9 answer
-  abbrev answers : ResolvedRecord → ℕ → Outcome
-  answers (RecordStop k) b = says k [] s img buf
-  answers (RecordAt r) b =
+  abbrev answers : Result Rule ℕ → ℕ → Outcome
+  answers (Err k) b = says k [] s img buf
+  answers (Ok r) b =
       if_else (eqb (status r b) normal)
       (says normal (found_data (b ∷ []) (matched r)) (placed s (OnRecord r.id (get_or (matched r) 0 0))) img buf)
       (says (status r b) [] s img buf)
 
-  module _ (ch : Chain) (a : verdict_on img s ch (length buf) ≡ Accepted) where
+  module _ (ch : Chain) (a : verdict_on img s ch (length buf) ≡ (Ok tt)) where
     abbrev room : 2050 ≤ length buf
     room = accepted_room img s ch buf a
 
     module _ (b : ℕ) (cmd : List ℕ) (c : SearchCommand ch cmd f (with_file x (b ∷ []))) where
-      abbrev resolved : ResolvedRecord
+      abbrev resolved : Result Rule ℕ
       resolved = resolve_record img s Read (search_named (b ∷ []))
 
       abbrev ok : RecordOk img s Read resolved
@@ -110,8 +108,8 @@ module _ (img : List ℕ) (s : Session) (buf : List ℕ) (f : Frame) (x : Search
       abbrev asked : Reached img s ch cmd f (with_file x (b ∷ []))
       asked = search_reached img s ch cmd f (with_file x (b ∷ [])) c
 
-      at-file : (r : Rule) → resolved ≡ RecordAt r
-          → (searched img s (data_of ch cmd) buf r asked.query f.ne ≡ answers (RecordAt r) b) × (length (found_data (b ∷ []) (matched r)) ≤ 2048)
+      at-file : (r : Rule) → resolved ≡ Ok r
+          → (searched img s (data_of ch cmd) buf r asked.query f.ne ≡ answers (Ok r) b) × (length (found_data (b ∷ []) (matched r)) ≤ 2048)
       unfolding searched search_status
       at-file r e =
           let y : SearchFields = with_file x (b ∷ []) in
@@ -123,16 +121,16 @@ module _ (img : List ℕ) (s : Session) (buf : List ℕ) (f : Frame) (x : Search
           (rw (h, p), subst (λ (m : List ℕ). length m ≤ 2048) p (reply-short img (data_of ch cmd) r asked.query o g.file.ok k))
 
       -- a status word of steps 7 to 9 is not 9000
-      stops : (k : ℕ) → resolved ≡ RecordStop k → k ≡ 0x9000 → ⊥
+      stops : (k : ℕ) → resolved ≡ Err k → k ≡ 0x9000 → ⊥
       stops k e z = let h = ltb-true k 0x9000 (subst (RecordOk img s Read) e ok) in omega (arith, z)
 
-      comes-to : (z : ResolvedRecord) → resolved ≡ z → step img s ch cmd buf ≡ answers z b
+      comes-to : (z : Result Rule ℕ) → resolved ≡ z → step img s ch cmd buf ≡ answers z b
       unfolding done
       comes-to z e = reached-outcome img s ch cmd buf f (with_file x (b ∷ [])) asked z a e ∙ acts z e
         where
-          acts : (z : ResolvedRecord) → resolved ≡ z → done (on_record z (search_on asked.query f.ne)) img s (data_of ch cmd) buf ≡ answers z b
-          acts (RecordStop k) e = refl
-          acts (RecordAt r) e = (at-file r e).0
+          acts : (z : Result Rule ℕ) → resolved ≡ z → done (on_record z (search_on asked.query f.ne)) img s (data_of ch cmd) buf ≡ answers z b
+          acts (Err k) e = refl
+          acts (Ok r) e = (at-file r e).0
 
 -- ---- the theorem
 
@@ -140,19 +138,19 @@ module _ (img : List ℕ) (s : Session) (ch : Chain) (cmd other buf : List ℕ) 
   abbrev some : 1 ≤ length x.text
   some = c.sized.text_size
 
-  answers-alike : verdict_on img s ch (length buf) ≡ Accepted → (z : ResolvedRecord) → resolve_record img s Read (search_named (y ∷ [])) ≡ z → Alike y (8 * y) (answers img s buf f x some z y) (answers img s buf f x some z (8 * y))
-  answers-alike a (RecordStop k) e = word_alike y (8 * y) img s buf k (stops img s buf f x some ch a y cmd c k e)
-  answers-alike a (RecordAt r) e =
+  answers-alike : verdict_on img s ch (length buf) ≡ (Ok tt) → (z : Result Rule ℕ) → resolve_record img s Read (search_named (y ∷ [])) ≡ z → Alike y (8 * y) (answers img s buf f x some z y) (answers img s buf f x some z (8 * y))
+  answers-alike a (Err k) e = word_alike y (8 * y) img s buf k (stops img s buf f x some ch a y cmd c k e)
+  answers-alike a (Ok r) e =
       let ns = matched img s buf f x some r in
       let l = same_length ns (8 * y) y in
       by_cases (eqb (status img s buf f x some r y) normal)
       (λ t. simp (l, t) (found_alike y (8 * y) ns img (placed s (OnRecord r.id (get_or ns 0 0))) buf (at-file img s buf f x some ch a y cmd c r e).1 (accepted_room img s ch buf a)))
       (λ t. simp (l, t) (word_alike y (8 * y) img s buf (status img s buf f x some r y) (eqb-false _ _ t)))
 
-  spelled-alike : (z : Verdict) → verdict_on img s ch (length buf) ≡ z → Alike y (8 * y) (step img s ch cmd buf) (step img s ch other buf)
+  spelled-alike : (z : Result (Unit {0}) Refusal) → verdict_on img s ch (length buf) ≡ z → Alike y (8 * y) (step img s ch cmd buf) (step img s ch other buf)
   unfolding step step_by
-  spelled-alike (Refused r) e = simp e (alike_itself y (8 * y) (outcome (refused r s) img buf) (λ z. omega (arith, z)))
-  spelled-alike Accepted e =
+  spelled-alike (Err r) e = simp e (alike_itself y (8 * y) (outcome (refused r s) img buf) (λ z. omega (arith, z)))
+  spelled-alike (Ok tt) e =
       let z = resolve_record img s Read (search_named (y ∷ [])) in
       simp (comes-to img s buf f x some ch e y cmd c z refl, comes-to img s buf f x some ch e (8 * y) other d z (ap (resolve_record img s Read) (search_named_alike y n)))
       (answers-alike e z refl)

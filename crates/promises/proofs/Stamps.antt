@@ -12,12 +12,11 @@ use Rattle.base.proofs.Cases.{by_cases}
 use Rattle.base.proofs.Runs.{part-sets}
 use Rattle.objects_stamp.specs.declared.Reason.{Reason}
 use Rattle.objects_stamp.specs.declared.Reason.TheVariants.{WrongTag, WrongLength, WrongContent}
-use Rattle.objects_stamp.specs.declared.Finding.{Finding}
-use Rattle.objects_stamp.specs.declared.Finding.TheVariants.{Right, Wrong}
+use Rattle.std.specs.Prelude.{Ok, Err}
 use Rattle.objects_stamp.specs.Stamp.{Stamp, stamp_data, stamp_places}
-use Rattle.objects_stamp.specs.FirstFault.{stamp_finding}
+use Rattle.objects_stamp.specs.FirstFault.{Finding, stamp_finding}
 use Rattle.objects_stamp.specs.Faults.{StampFaults, NoFault, FirstOf, reason_number}
-use Rattle.objects_stamp.specs.Read.{finding_number, finding_place, read_stamp, read_stamp_into}
+use Rattle.objects_stamp.specs.Read.{stamp_answer, read_stamp, read_stamp_into}
 use Rattle.objects_stamp.proofs.First.{IsFirst}
 use Rattle.objects_stamp.proofs.Stamps.{stamp_sound, stamp_complete, stamp_unique, stamp_most, stamp_first, stamp_only, stamp_near}
 use Rattle.objects_stamp.proofs.Writing.{read_short, into_stamp, into_kept, places-length}
@@ -33,12 +32,12 @@ reason_range WrongContent = omega arith
 module _ (s ps : List ℕ) where
   -- ---- three cases: the list is too short, nothing is wrong, something is
 
-  by-finding : {P : Type 0} (f : Finding) → stamp_finding s ≡ f → (stamp_finding s ≡ Right → P) → ((w : Reason) (at : ℕ) → stamp_finding s ≡ Wrong w at → P) → P
-  by-finding Right e p q = p e
-  by-finding (Wrong w at) e p q = q w at e
+  by-finding : {P : Type 0} (f : Finding) → stamp_finding s ≡ f → (stamp_finding s ≡ Ok tt → P) → ((w : Reason) (at : ℕ) → stamp_finding s ≡ Err (w, at) → P) → P
+  by-finding (Ok _) e p q = p e
+  by-finding (Err (w, at)) e p q = q w at e
 
-  by_answer : {P : Type 0} → (length ps < 26 → P) → (26 ≤ length ps → stamp_finding s ≡ Right → P)
-      → ((w : Reason) (at : ℕ) → 26 ≤ length ps → stamp_finding s ≡ Wrong w at → P) → P
+  by_answer : {P : Type 0} → (length ps < 26 → P) → (26 ≤ length ps → stamp_finding s ≡ Ok tt → P)
+      → ((w : Reason) (at : ℕ) → 26 ≤ length ps → stamp_finding s ≡ Err (w, at) → P) → P
   by_answer p q o =
       by_cases (ltb (length ps) 26) (λ t. p (ltb-true (length ps) 26 t))
       (λ t. let h = ltb-false (length ps) 26 t in by-finding (stamp_finding s) refl (q h) (λ w at e. o w at h e))
@@ -48,28 +47,28 @@ module _ (s ps : List ℕ) where
   result-short : length ps < 26 → stamp_result (read_stamp s ps) ≡ 15 * 4294967296
   result-short h = sym (ap stamp_result (read_short s ps h).0)
 
-  result-told : 26 ≤ length ps → {f : Finding} → stamp_finding s ≡ f → stamp_result (read_stamp s ps) ≡ finding_number f * 4294967296 + finding_place f % 4294967296
+  result-told : 26 ≤ length ps → {f : Finding} → stamp_finding s ≡ f → stamp_result (read_stamp s ps) ≡ stamp_result (stamp_answer f)
   unfolding read_stamp
   result-told h e = rw (le-ltb (length ps) 26 h, e) refl
 
-  result-right : 26 ≤ length ps → stamp_finding s ≡ Right → stamp_result (read_stamp s ps) ≡ 0
+  result-right : 26 ≤ length ps → stamp_finding s ≡ Ok tt → stamp_result (read_stamp s ps) ≡ 0
   result-right h e = result-told h e
 
   module _ (b : AllBytes s) where
-    result-fault : 26 ≤ length ps → {w : Reason} {at : ℕ} → stamp_finding s ≡ Wrong w at → stamp_result (read_stamp s ps) ≡ reason_number w * 4294967296 + at
+    result-fault : 26 ≤ length ps → {w : Reason} {at : ℕ} → stamp_finding s ≡ Err (w, at) → stamp_result (read_stamp s ps) ≡ reason_number w * 4294967296 + at
     result-fault h {w} {at} e = let r = result-told h e in let n = stamp_near s w at b e in omega arith
 
-    zero_right : stamp_result (read_stamp s ps) ≡ 0 → (26 ≤ length ps) × (stamp_finding s ≡ Right)
+    zero_right : stamp_result (read_stamp s ps) ≡ 0 → (26 ≤ length ps) × (stamp_finding s ≡ Ok tt)
     zero_right z =
         by_answer (λ h. let r = result-short h in absurd (omega arith)) (λ h e. (h, e))
         (λ w at h e. let r = result-fault h e in let n = (reason_range w).0 in absurd (omega arith))
 
     -- ---- the stamp
 
-    right_of : (x : Stamp) → IsStamp s x → stamp_finding s ≡ Right
+    right_of : (x : Stamp) → IsStamp s x → stamp_finding s ≡ Ok tt
     right_of x i = rw i.written (stamp_complete x i.lawful)
 
-    stamp-of : stamp_finding s ≡ Right → (x : Stamp) × IsStamp s x
+    stamp-of : stamp_finding s ≡ Ok tt → (x : Stamp) × IsStamp s x
     stamp-of e = let x = stamp_sound s b e in (x.0, record { lawful = x.1; written = x.2 })
 
     places_of : 26 ≤ length ps → (x : Stamp) → IsStamp s x → take 26 (read_stamp_into s ps) ≡ stamp_places x
@@ -84,23 +83,23 @@ module _ (s ps : List ℕ) where
     first_of : {f : Finding} → stamp_finding s ≡ f → IsFirst f (StampFaults s)
     first_of e = subst (λ (f : Finding). IsFirst f (StampFaults s)) e (stamp_first s)
 
-    none-wrong : stamp_finding s ≡ Right → NoFault (StampFaults s)
+    none-wrong : stamp_finding s ≡ Ok tt → NoFault (StampFaults s)
     unfolding IsFirst
     none-wrong e = first_of e
 
-    one-wrong : {w : Reason} {at : ℕ} → stamp_finding s ≡ Wrong w at → FirstOf (StampFaults s) w at
+    one-wrong : {w : Reason} {at : ℕ} → stamp_finding s ≡ Err (w, at) → FirstOf (StampFaults s) w at
     unfolding IsFirst
     one-wrong e = first_of e
 
-    wrong-none : NoFault (StampFaults s) → stamp_finding s ≡ Right
+    wrong-none : NoFault (StampFaults s) → stamp_finding s ≡ Ok tt
     unfolding IsFirst
-    wrong-none x = sym (stamp_only s Right x)
+    wrong-none x = sym (stamp_only s (Ok tt) x)
 
-    wrong-one : (w : Reason) (at : ℕ) → FirstOf (StampFaults s) w at → stamp_finding s ≡ Wrong w at
+    wrong-one : (w : Reason) (at : ℕ) → FirstOf (StampFaults s) w at → stamp_finding s ≡ Err (w, at)
     unfolding IsFirst
-    wrong-one w at x = sym (stamp_only s (Wrong w at) x)
+    wrong-one w at x = sym (stamp_only s (Err (w, at)) x)
 
-    told : (w : Reason) (at : ℕ) → 26 ≤ length ps → stamp_finding s ≡ Wrong w at
+    told : (w : Reason) (at : ℕ) → 26 ≤ length ps → stamp_finding s ≡ Err (w, at)
         → (v : Reason) × (stamp_reason_in (stamp_result (read_stamp s ps)) ≡ reason_number v) × FirstOf (StampFaults s) v (stamp_offset_in (stamp_result (read_stamp s ps)))
     unfolding stamp_reason_in stamp_offset_in
     told w at h e =

@@ -15,8 +15,6 @@ use Rattle.base.proofs.Cases.{by_cases, false-true, if_else_ind, all_of_facts, a
 use Rattle.base.proofs.Parts.{length_part}
 use Rattle.machine_apdu.specs.Status.{normal, wrong_length}
 use Rattle.machine_apdu.specs.Shape.{shape_of}
-use Rattle.machine_apdu.specs.declared.Apdu.{Apdu}
-use Rattle.machine_apdu.specs.declared.Apdu.TheVariants.{Bad, Good}
 use Rattle.machine_apdu.specs.declared.Frame.{Frame}
 use Rattle.machine_apdu.specs.declared.Header.{Header}
 use Rattle.machine_apdu.proofs.Laws.{shape_facts}
@@ -24,16 +22,18 @@ use Rattle.machine_session.specs.Order.{in_order}
 use Rattle.machine_session.specs.declared.Session.{Session}
 use Rattle.machine_session.proofs.Steps.{in_order-each}
 use Rattle.machine_action.specs.declared.Action.{Action}
-use Rattle.machine_action.specs.declared.Action.TheVariants.{Status}
 use Rattle.machine_chain.specs.Chain.{Chain, NoChain, Links, is_amid, so_far, goes_on}
 use Rattle.machine_link.specs.Link.{is_link, class_of, is_command, head_status, join_fits, last_turn, turn}
 use Rattle.machine_link.specs.declared.Course.{Course}
-use Rattle.machine_link.specs.declared.Course.TheVariants.{Stops, Extends, Goes}
+use Rattle.machine_link.specs.declared.Course.TheVariants.{Extends, Goes}
 use Rattle.machine_link.proofs.Turning.{Extending, Going, Turned, stopped, joined, gone, turn-told}
 use Rattle.machine_dispatch.specs.Decide.{by_class, whole_frame, data_by, data_of, on_course, by_shape, decide}
 use Rattle.machine_dispatch.proofs.Allowing.{From, class-from, bytes-part, bytes-append}
 use Rattle.promises.specs.Calls.{is_pair, whole_by, whole_of}
 use Rattle.promises.proofs.Wording.{is_refusing, Worded, class-word, Stopping, stopping, extending, going, turn-word}
+use Rattle.std.specs.Prelude.{Option, Some, None}
+use Rattle.std.specs.Prelude.{Result, Err}
+use Rattle.std.specs.Prelude.{Ok}
 
 -- CLA and INS
 pub pair_facts : (f : Frame) (c i : ℕ) → is_pair f c i ≡ true → (f.header.cla ≡ c) × (f.header.ins ≡ i)
@@ -44,28 +44,28 @@ pair_facts f c i p = let h = all_of_facts (eqb f.header.cla c ∷ eqb f.header.i
 
 -- f is the frame of the whole command behind the chain ch, of which g is the frame of its last link
 pub record WholeBy (ch : Chain) (cmd : List ℕ) (f g : Frame) : Type 0 where
-  pub shape : shape_of cmd ≡ Good g
+  pub shape : shape_of cmd ≡ Some g
   pub frame : f ≡ whole_frame ch g
   pub goes : goes_on ch g.header ≡ true
   pub few : length (so_far ch) + g.lc ≤ 1024
 
 module _ (ch : Chain) (cmd : List ℕ) (f : Frame) where
-  pub whole_facts : whole_of ch cmd ≡ Good f → (g : Frame) × WholeBy ch cmd f g
+  pub whole_facts : whole_of ch cmd ≡ Some f → (g : Frame) × WholeBy ch cmd f g
   unfolding whole_of
   whole_facts = go (shape_of cmd) refl
     where
-      go : (a : Apdu) → shape_of cmd ≡ a → whole_by ch a ≡ Good f → (g : Frame) × WholeBy ch cmd f g
-      go Bad e z = let y : ◌≡◌ {A = ℕ} 0 1 = cc in absurd (omega arith)
-      go (Good g) e z =
+      go : (a : Option Frame) → shape_of cmd ≡ a → whole_by ch a ≡ Some f → (g : Frame) × WholeBy ch cmd f g
+      go None e z = let y : ◌≡◌ {A = ℕ} 0 1 = cc in absurd (omega arith)
+      go (Some g) e z =
           by_cases (all_of (goes_on ch g.header ∷ leb (length (so_far ch) + g.lc) 1024 ∷ []))
           (λ t.
           let h = all_of_facts _ t in
-          let y : Good (whole_frame ch g) ≡ Good f = rw t at z in
+          let y : Some (whole_frame ch g) ≡ Some f = rw t at z in
           let q : whole_frame ch g ≡ f = cc in
           (g, record { shape = e; frame = sym q; goes = h.0; few = leb-true _ _ h.1.0 }))
-          (λ t. let y : Bad ≡ Good f = rw t at z in let q : ◌≡◌ {A = ℕ} 0 1 = cc in absurd (omega arith))
+          (λ t. let y : None ≡ Some f = rw t at z in let q : ◌≡◌ {A = ℕ} 0 1 = cc in absurd (omega arith))
 
-  module _ (e : whole_of ch cmd ≡ Good f) where
+  module _ (e : whole_of ch cmd ≡ Some f) where
     abbrev own : Frame
     own = (whole_facts e).0
 
@@ -116,7 +116,7 @@ module _ (ch : Chain) (cmd : List ℕ) (f : Frame) where
       unfolding head_status in_order
       head = simp (same_class, ins, class, command, by.goes)
 
-      turns : turn ch own ≡ Goes
+      turns : turn ch own ≡ (Ok Goes)
       unfolding turn last_turn in_order join_fits
       turns = rw no_link (by_cases (is_amid ch) (λ t. rw t (simp (head, le-leb (length (so_far ch) + own.lc) 1024 by.few))) (λ t. rw t refl))
 
@@ -124,7 +124,7 @@ module _ (ch : Chain) (cmd : List ℕ) (f : Frame) where
       unfolding decide
       class_decided img s =
           ap (by_shape img s ch cmd) by.shape
-          ∙ ap (λ (k : Course). on_course k img s (whole_frame ch own) (so_far ch ++ part cmd own.from own.lc)) turns
+          ∙ ap (λ (k : Result Course ℕ). on_course k img s (whole_frame ch own) (so_far ch ++ part cmd own.from own.lc)) turns
           ∙ ap₂ (λ (x : Frame) (d : List ℕ). by_class img s x d) (sym by.frame) (sym data_is)
 
       pub whole_from : (img : List ℕ) (s : Session) → From img s f (data_of ch cmd) (decide img s ch cmd)
@@ -134,12 +134,12 @@ module _ (ch : Chain) (cmd : List ℕ) (f : Frame) where
 
 -- a link that is taken, and a whole command
 pub record LinkWay (img : List ℕ) (s : Session) (ch : Chain) (cmd : List ℕ) (f : Frame) : Type 0 where
-  pub shape : shape_of cmd ≡ Good f
+  pub shape : shape_of cmd ≡ Some f
   pub turned : Extending ch f
-  pub action : decide img s ch cmd ≡ Status normal
+  pub action : decide img s ch cmd ≡ Err normal
 
 pub record WholeWay (img : List ℕ) (s : Session) (ch : Chain) (cmd : List ℕ) (f : Frame) : Type 0 where
-  pub whole : whole_of ch cmd ≡ Good f
+  pub whole : whole_of ch cmd ≡ Some f
   pub no_link : is_link f.header ≡ false
   pub action : decide img s ch cmd ≡ by_class img s f (data_of ch cmd)
   pub from : From img s f (data_of ch cmd) (decide img s ch cmd)
@@ -147,7 +147,7 @@ pub record WholeWay (img : List ℕ) (s : Session) (ch : Chain) (cmd : List ℕ)
 
 -- it stops with a word that refuses it, it is a link, or it is a whole command
 pub data Way (img : List ℕ) (s : Session) (ch : Chain) (cmd : List ℕ) : Type 0 where
-  stops : (w : ℕ) → is_refusing w ≡ true → decide img s ch cmd ≡ Status w → Way img s ch cmd
+  stops : (w : ℕ) → is_refusing w ≡ true → decide img s ch cmd ≡ Err w → Way img s ch cmd
   links : (f : Frame) → LinkWay img s ch cmd f → Way img s ch cmd
   whole : (f : Frame) → WholeWay img s ch cmd f → Way img s ch cmd
 
@@ -167,19 +167,19 @@ pub way : (img : List ℕ) (s : Session) (ch : Chain) (cmd : List ℕ) → Way i
 unfolding decide whole_of
 way img s ch cmd = go (shape_of cmd) refl
   where
-    course : (f : Frame) → shape_of cmd ≡ Good f → (k : Course) → turn ch f ≡ k → Turned ch f k → Stopping k → Way img s ch cmd
-    course f e (Stops w) t x (stopping v b) = stops w b (ap (by_shape img s ch cmd) e ∙ ap (λ (k : Course). on_course k img s (whole_frame ch f) (so_far ch ++ part cmd f.from f.lc)) t)
-    course f e Extends t (joined x) y =
-        links f (record { shape = e; turned = x; action = ap (by_shape img s ch cmd) e ∙ ap (λ (k : Course). on_course k img s (whole_frame ch f) (so_far ch ++ part cmd f.from f.lc)) t })
-    course f e Goes t (gone x) y =
+    course : (f : Frame) → shape_of cmd ≡ Some f → (k : Result Course ℕ) → turn ch f ≡ k → Turned ch f k → Stopping k → Way img s ch cmd
+    course f e (Err w) t x (stopping v b) = stops w b (ap (by_shape img s ch cmd) e ∙ ap (λ (k : Result Course ℕ). on_course k img s (whole_frame ch f) (so_far ch ++ part cmd f.from f.lc)) t)
+    course f e (Ok Extends) t (joined x) y =
+        links f (record { shape = e; turned = x; action = ap (by_shape img s ch cmd) e ∙ ap (λ (k : Result Course ℕ). on_course k img s (whole_frame ch f) (so_far ch ++ part cmd f.from f.lc)) t })
+    course f e (Ok Goes) t (gone x) y =
         let z = shape_facts cmd (shape_of cmd) f refl e in
         let g = going_whole ch f z.few x in
-        let w : whole_of ch cmd ≡ Good (whole_frame ch f) =
-        ap (whole_by ch) e ∙ ap (λ (b : Bool). if_else b (Good (whole_frame ch f)) Bad) (all_of_accepted (goes_on ch f.header ∷ leb (length (so_far ch) + f.lc) 1024 ∷ []) (g.0, (le-leb _ _ g.1, tt))) in
+        let w : whole_of ch cmd ≡ Some (whole_frame ch f) =
+        ap (whole_by ch) e ∙ ap (λ (b : Bool). if_else b (Some (whole_frame ch f)) None) (all_of_accepted (goes_on ch f.header ∷ leb (length (so_far ch) + f.lc) 1024 ∷ []) (g.0, (le-leb _ _ g.1, tt))) in
         let d : data_of ch cmd ≡ so_far ch ++ part cmd f.from f.lc = unfold data_of in ap (data_by ch cmd) e in
         let a : decide img s ch cmd ≡ by_class img s (whole_frame ch f) (data_of ch cmd) =
         ap (by_shape img s ch cmd) e
-        ∙ ap (λ (k : Course). on_course k img s (whole_frame ch f) (so_far ch ++ part cmd f.from f.lc)) t
+        ∙ ap (λ (k : Result Course ℕ). on_course k img s (whole_frame ch f) (so_far ch ++ part cmd f.from f.lc)) t
         ∙ ap (by_class img s (whole_frame ch f)) (sym d) in
         whole (whole_frame ch f)
         (record {
@@ -190,16 +190,16 @@ way img s ch cmd = go (shape_of cmd) refl
           worded = subst Worded (sym a) (class-word img s (whole_frame ch f) (data_of ch cmd));
         })
 
-    go : (a : Apdu) → shape_of cmd ≡ a → Way img s ch cmd
-    go Bad e = stops wrong_length refl (ap (by_shape img s ch cmd) e)
-    go (Good f) e = course f e (turn ch f) refl (turn-told ch f) (turn-word ch f)
+    go : (a : Option Frame) → shape_of cmd ≡ a → Way img s ch cmd
+    go None e = stops wrong_length refl (ap (by_shape img s ch cmd) e)
+    go (Some f) e = course f e (turn ch f) refl (turn-told ch f) (turn-word ch f)
 
 -- a command with CLA 00 or 80 is no link
-pub not_both : (ch : Chain) (cmd : List ℕ) (f g : Frame) → whole_of ch cmd ≡ Good f → f.header.cla ≡ 0x00 → shape_of cmd ≡ Good g → is_link g.header ≡ true → ⊥
+pub not_both : (ch : Chain) (cmd : List ℕ) (f g : Frame) → whole_of ch cmd ≡ Some f → f.header.cla ≡ 0x00 → shape_of cmd ≡ Some g → is_link g.header ≡ true → ⊥
 unfolding is_link
 not_both ch cmd f g e c z l =
     let k = whole_facts ch cmd f e in
-    let y : Good k.0 ≡ Good g = sym k.1.shape ∙ z in
+    let y : Some k.0 ≡ Some g = sym k.1.shape ∙ z in
     let q : k.0 ≡ g = cc in
     let h : g.header.cla ≡ 0x00 = ap (λ (x : Frame). x.header.cla) (sym q) ∙ sym (ap (λ (x : Frame). x.header.cla) k.1.frame) ∙ c in
     false-true (sym (ap (λ (x : ℕ). eqb (x / 16 % 2) 1) h) ∙ l)

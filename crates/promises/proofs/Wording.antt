@@ -14,26 +14,14 @@ use Rattle.base.specs.Bytes.{part}
 use Rattle.base.proofs.Cases.{by_cases, if_else_ind, false-true, and_left, and_right}
 use Rattle.objects_templates.specs.Search.{read_search}
 use Rattle.objects_templates.specs.OffsetObject.{read_offset_object}
-use Rattle.objects_templates.specs.declared.OffsetObject.{OffsetObject}
-use Rattle.objects_templates.specs.declared.OffsetObject.TheVariants.{Offset, NoOffset}
 use Rattle.objects_templates.specs.Update.{read_update}
 use Rattle.objects_templates.specs.Reference.{read_reference}
-use Rattle.objects_templates.specs.declared.Query.{Query}
-use Rattle.objects_templates.specs.declared.Query.TheVariants.{Ask, NoQuery}
-use Rattle.objects_templates.specs.declared.Update.{Update}
-use Rattle.objects_templates.specs.declared.Update.TheVariants.{Writing, NoUpdate}
-use Rattle.objects_templates.specs.declared.Reference.{Reference}
-use Rattle.objects_templates.specs.declared.Reference.TheVariants.{Refers, NoReference}
 use Rattle.store_files.specs.Files.{by_id, by_short}
 use Rattle.store_files.specs.Master.{aid_of}
-use Rattle.store_files.specs.declared.AidName.{AidName}
-use Rattle.store_files.specs.declared.AidName.TheVariants.{Application, OtherAid}
 use Rattle.store_files.specs.declared.Transparent.{Transparent}
 use Rattle.store_files.specs.declared.Transparent.TheVariants.{Info, Dir, Biometrics}
 use Rattle.store_files.specs.declared.File.{File}
 use Rattle.store_files.specs.declared.File.TheVariants.{RecordFile, TransparentFile}
-use Rattle.store_files.specs.declared.Lookup.{Lookup}
-use Rattle.store_files.specs.declared.Lookup.TheVariants.{Known, NoFile}
 use Rattle.store_kinds.specs.declared.rules.Rule.{Rule}
 use Rattle.machine_action.specs.Tests.{p1p2, id_in, or_current, id_or_current, on_record, on_transparent, on_biometrics, on_file}
 use Rattle.machine_select.specs.Select.{select_aid, select_master, select_file, select_by, select}
@@ -47,18 +35,6 @@ use Rattle.machine_record.specs.SearchRecord.{file_in, search_named, search_on, 
 use Rattle.machine_session.specs.Resolve.{meant_by, meant_at, file_meant, may_record, may_read, may_inspect, record_by, resolve_record, transparent_by, resolve_transparent, writable, biometrics_by, resolve_biometrics, file_by, resolve_file}
 use Rattle.machine_session.specs.declared.Access.{Access}
 use Rattle.machine_session.specs.declared.Access.TheVariants.{Read, Append}
-use Rattle.machine_session.specs.declared.ResolvedRecord.{ResolvedRecord}
-use Rattle.machine_session.specs.declared.ResolvedRecord.TheVariants.{RecordStop, RecordAt}
-use Rattle.machine_session.specs.declared.ResolvedTransparent.{ResolvedTransparent}
-use Rattle.machine_session.specs.declared.ResolvedTransparent.TheVariants.{TransparentStop, TransparentAt}
-use Rattle.machine_session.specs.declared.ResolvedBiometrics.{ResolvedBiometrics}
-use Rattle.machine_session.specs.declared.ResolvedBiometrics.TheVariants.{BiometricsStop, BiometricsAt}
-use Rattle.machine_session.specs.declared.ResolvedFile.{ResolvedFile}
-use Rattle.machine_session.specs.declared.ResolvedFile.TheVariants.{FileStop, FileAt}
-use Rattle.machine_session.specs.declared.Meant.{Meant}
-use Rattle.machine_session.specs.declared.Meant.TheVariants.{NotMeant, TheFile}
-use Rattle.machine_session.specs.declared.RecordNumber.{RecordNumber}
-use Rattle.machine_session.specs.declared.RecordNumber.TheVariants.{Number, NoNumber}
 use Rattle.machine_session.specs.declared.Place.{Place}
 use Rattle.machine_session.specs.declared.Place.TheVariants.{Nowhere, OnFile, OnRecord}
 use Rattle.machine_session.specs.declared.Session.{Session}
@@ -66,11 +42,9 @@ use Rattle.machine_session.specs.declared.Named.{Named}
 use Rattle.machine_session.specs.declared.Named.TheVariants.{Current, Short, Id}
 use Rattle.machine_session.proofs.Steps.{in_order-each}
 use Rattle.machine_apdu.specs.Shape.{shape_of}
-use Rattle.machine_apdu.specs.declared.Apdu.{Apdu}
-use Rattle.machine_apdu.specs.declared.Apdu.TheVariants.{Bad, Good}
 use Rattle.machine_apdu.specs.declared.Frame.{Frame}
 use Rattle.machine_action.specs.declared.Action.{Action}
-use Rattle.machine_action.specs.declared.Action.TheVariants.{Status, SelectApplication, SelectFile, ReadBinary, UpdateBinary, Activate, AppendRecord, ReadRecord, SearchRecord, Report, ReadBinaryOdd}
+use Rattle.machine_action.specs.declared.Action.TheVariants.{SelectApplication, SelectFile, ReadBinary, UpdateBinary, Activate, AppendRecord, ReadRecord, SearchRecord, Report, ReadBinaryOdd}
 use Rattle.machine_binary.specs.Activate.{activate_file}
 use Rattle.machine_dispatch.specs.Decide.{by_ins, by_own_ins, by_class, by_shape, decide}
 use Rattle.machine_session.specs.Order.{in_order}
@@ -80,8 +54,12 @@ use Rattle.machine_chain.specs.Chain.{is_amid}
 use Rattle.machine_link.specs.Parameters.{parameters_fit}
 use Rattle.machine_link.specs.Link.{is_link, head_status, join_fits, link_turn, last_turn, turn}
 use Rattle.machine_link.specs.declared.Course.{Course}
-use Rattle.machine_link.specs.declared.Course.TheVariants.{Stops, Extends, Goes}
+use Rattle.machine_link.specs.declared.Course.TheVariants.{Extends, Goes}
 use Rattle.promises.specs.Words.{words}
+use Rattle.std.specs.Prelude.{Option, Some, None, Result, Ok, Err}
+use Rattle.objects_templates.specs.declared.Search.{Search}
+use Rattle.objects_templates.specs.declared.Writes.{Writes}
+use Rattle.objects_templates.specs.Span.{Span}
 
 -- ---- one of a list
 
@@ -130,30 +108,30 @@ refusing_not w v y n e = false-true (sym n ∙ ap is_refusing (sym e) ∙ y)
 
 -- ---- steps 7 to 9
 
-abbrev Means : Meant → Type 0
-Means (NotMeant w) = is_refusing w ≡ true
-Means (TheFile f) = Unit {0}
+abbrev Means : Result File ℕ → Type 0
+Means (Err w) = is_refusing w ≡ true
+Means (Ok f) = Unit {0}
 
-abbrev RecordStops : ResolvedRecord → Type 0
-RecordStops (RecordStop w) = is_refusing w ≡ true
-RecordStops (RecordAt r) = Unit {0}
+abbrev RecordStops : Result Rule ℕ → Type 0
+RecordStops (Err w) = is_refusing w ≡ true
+RecordStops (Ok r) = Unit {0}
 
-abbrev TransparentStops : ResolvedTransparent → Type 0
-TransparentStops (TransparentStop w) = is_refusing w ≡ true
-TransparentStops (TransparentAt t) = Unit {0}
+abbrev TransparentStops : Result Transparent ℕ → Type 0
+TransparentStops (Err w) = is_refusing w ≡ true
+TransparentStops (Ok t) = Unit {0}
 
-abbrev BiometricsStops : ResolvedBiometrics → Type 0
-BiometricsStops (BiometricsStop w) = is_refusing w ≡ true
-BiometricsStops (BiometricsAt n) = Unit {0}
+abbrev BiometricsStops : Result ℕ ℕ → Type 0
+BiometricsStops (Err w) = is_refusing w ≡ true
+BiometricsStops (Ok n) = Unit {0}
 
-abbrev FileStops : ResolvedFile → Type 0
-FileStops (FileStop w) = is_refusing w ≡ true
-FileStops (FileAt f) = Unit {0}
+abbrev FileStops : Result File ℕ → Type 0
+FileStops (Err w) = is_refusing w ≡ true
+FileStops (Ok f) = Unit {0}
 
 module _ (img : List ℕ) (s : Session) where
-  lookup-word : (l : Lookup) → Means (meant_by l)
-  lookup-word (Known f) = tt
-  lookup-word NoFile = refl
+  lookup-word : (l : Option File) → Means (meant_by l)
+  lookup-word (Some f) = tt
+  lookup-word None = refl
 
   meant_word : (n : Named) → Means (file_meant img s n)
   unfolding file_meant
@@ -170,19 +148,19 @@ module _ (img : List ℕ) (s : Session) where
   unfolding resolve_record
   record-word x n = go (file_meant img s n) (meant_word n)
     where
-      go : (m : Meant) → Means m → RecordStops (record_by s x m)
-      go (NotMeant w) h = h
-      go (TheFile (TransparentFile t)) h = refl
-      go (TheFile (RecordFile r)) h = if_else_ind RecordStops (may_record s x r) (λ e. tt) (λ e. refl)
+      go : (m : Result File ℕ) → Means m → RecordStops (record_by s x m)
+      go (Err w) h = h
+      go (Ok (TransparentFile t)) h = refl
+      go (Ok (RecordFile r)) h = if_else_ind RecordStops (may_record s x r) (λ e. tt) (λ e. refl)
 
   transparent-word : (n : Named) → TransparentStops (resolve_transparent img s n)
   unfolding resolve_transparent
   transparent-word n = go (file_meant img s n) (meant_word n)
     where
-      go : (m : Meant) → Means m → TransparentStops (transparent_by img s m)
-      go (NotMeant w) h = h
-      go (TheFile (RecordFile r)) h = refl
-      go (TheFile (TransparentFile t)) h = if_else_ind TransparentStops (may_read img s t) (λ e. tt) (λ e. refl)
+      go : (m : Result File ℕ) → Means m → TransparentStops (transparent_by img s m)
+      go (Err w) h = h
+      go (Ok (RecordFile r)) h = refl
+      go (Ok (TransparentFile t)) h = if_else_ind TransparentStops (may_read img s t) (λ e. tt) (λ e. refl)
 
   biometrics-word : (n : Named) → BiometricsStops (resolve_biometrics img s n)
   unfolding resolve_biometrics
@@ -193,62 +171,62 @@ module _ (img : List ℕ) (s : Session) where
       of Dir = unfold writable in refl
       of (Biometrics k) = unfold writable in in_order-each BiometricsStops _ _ (refl, (refl, tt)) (λ p. tt)
 
-      go : (m : Meant) → Means m → BiometricsStops (biometrics_by img s m)
-      go (NotMeant w) h = h
-      go (TheFile (RecordFile r)) h = refl
-      go (TheFile (TransparentFile t)) h = of t
+      go : (m : Result File ℕ) → Means m → BiometricsStops (biometrics_by img s m)
+      go (Err w) h = h
+      go (Ok (RecordFile r)) h = refl
+      go (Ok (TransparentFile t)) h = of t
 
   file-word : (n : Named) → FileStops (resolve_file img s n)
   unfolding resolve_file
   file-word n = go (file_meant img s n) (meant_word n)
     where
-      go : (m : Meant) → Means m → FileStops (file_by img s m)
-      go (NotMeant w) h = h
-      go (TheFile f) h = if_else_ind FileStops (may_inspect img s f) (λ e. tt) (λ e. refl)
+      go : (m : Result File ℕ) → Means m → FileStops (file_by img s m)
+      go (Err w) h = h
+      go (Ok f) h = if_else_ind FileStops (may_inspect img s f) (λ e. tt) (λ e. refl)
 
 -- ---- the commands
 
-abbrev pub Worded : Action → Type 0
-Worded (Status w) = is_refusing w ≡ true
-Worded (SelectApplication a) = Unit {0}
-Worded (SelectFile g) = Unit {0}
-Worded (ReadBinary t o n) = Unit {0}
-Worded (UpdateBinary n w) = Unit {0}
-Worded (Activate n) = Unit {0}
-Worded (AppendRecord r) = Unit {0}
-Worded (ReadRecord r a b) = Unit {0}
-Worded (SearchRecord r q ne) = Unit {0}
-Worded (Report g p2) = Unit {0}
-Worded (ReadBinaryOdd t o n) = Unit {0}
+abbrev pub Worded : Result Action ℕ → Type 0
+Worded (Err w) = is_refusing w ≡ true
+Worded (Ok (SelectApplication a)) = Unit {0}
+Worded (Ok (SelectFile g)) = Unit {0}
+Worded (Ok (ReadBinary t o n)) = Unit {0}
+Worded (Ok (UpdateBinary n w)) = Unit {0}
+Worded (Ok (Activate n)) = Unit {0}
+Worded (Ok (AppendRecord r)) = Unit {0}
+Worded (Ok (ReadRecord r a b)) = Unit {0}
+Worded (Ok (SearchRecord r q ne)) = Unit {0}
+Worded (Ok (Report g p2)) = Unit {0}
+Worded (Ok (ReadBinaryOdd t o n)) = Unit {0}
 
 module _ (img : List ℕ) (s : Session) (f : Frame) (d : List ℕ) where
-  on-record : (x : Access) (n : Named) (go : Rule → Action) → ((r : Rule) → Worded (go r)) → Worded (on_record (resolve_record img s x n) go)
+  on-record : (x : Access) (n : Named) (go : Rule → Result Action ℕ) → ((r : Rule) → Worded (go r)) → Worded (on_record (resolve_record img s x n) go)
   on-record x n go h = by (resolve_record img s x n) (record-word img s x n)
     where
-      by : (a : ResolvedRecord) → RecordStops a → Worded (on_record a go)
-      by (RecordStop w) o = o
-      by (RecordAt r) o = h r
+      by : (a : Result Rule ℕ) → RecordStops a → Worded (on_record a go)
+      by (Err w) o = o
+      by (Ok r) o = h r
 
-  on-transparent : (n : Named) (go : Transparent → Action) → ((t : Transparent) → Worded (go t)) → Worded (on_transparent (resolve_transparent img s n) go)
+  on-transparent : (n : Named) (go : Transparent → Result Action ℕ) → ((t : Transparent) → Worded (go t)) → Worded (on_transparent (resolve_transparent img s n) go)
   on-transparent n go h = by (resolve_transparent img s n) (transparent-word img s n)
     where
-      by : (a : ResolvedTransparent) → TransparentStops a → Worded (on_transparent a go)
-      by (TransparentStop w) o = o
-      by (TransparentAt t) o = h t
+      by : (a : Result Transparent ℕ) → TransparentStops a → Worded (on_transparent a go)
+      by (Err w) o = o
+      by (Ok t) o = h t
 
-  on-biometrics : (n : Named) (go : ℕ → Action) → ((k : ℕ) → Worded (go k)) → Worded (on_biometrics (resolve_biometrics img s n) go)
+  on-biometrics : (n : Named) (go : ℕ → Result Action ℕ) → ((k : ℕ) → Worded (go k)) → Worded (on_biometrics (resolve_biometrics img s n) go)
   on-biometrics n go h = by (resolve_biometrics img s n) (biometrics-word img s n)
     where
-      by : (a : ResolvedBiometrics) → BiometricsStops a → Worded (on_biometrics a go)
-      by (BiometricsStop w) o = o
-      by (BiometricsAt k) o = h k
+      by : (a : Result ℕ ℕ) → BiometricsStops a → Worded (on_biometrics a go)
+      by (Err w) o = o
+      by (Ok k) o = h k
 
-  on-file : (n : Named) (go : File → Action) → ((g : File) → Worded (go g)) → Worded (on_file (resolve_file img s n) go)
+  on-file : (n : Named) (go : File → Result Action ℕ) → ((g : File) → Worded (go g)) → Worded (on_file (resolve_file img s n) go)
   on-file n go h = by (resolve_file img s n) (file-word img s n)
     where
-      by : (a : ResolvedFile) → FileStops a → Worded (on_file a go)
-      by (FileStop w) o = o
-      by (FileAt g) o = h g
+      by : (a : Result File ℕ) → FileStops a → Worded (on_file a go)
+      by (Err w) o = o
+      by (Ok g) o = h g
 
   select_word : Worded (select img s f d)
   unfolding select select_by select_master select_file
@@ -257,12 +235,12 @@ module _ (img : List ℕ) (s : Session) (f : Frame) (d : List ℕ) where
       (λ p. if_else_ind Worded (eqb f.header.p1 0x04)
       (λ e. aid (aid_of d))
       (λ e. if_else_ind Worded (eqb f.header.p1 0x02)
-      (λ e. on-file (Id (id_in d)) SelectFile (λ g. tt))
+      (λ e. on-file (Id (id_in d)) (λ (g : File). Ok (SelectFile g)) (λ g. tt))
       (λ e. if_else_ind Worded (eqb (id_in d) 0x3F00) (λ e. tt) (λ e. refl))))
     where
-      aid : (a : AidName) → Worded (select_aid img s a)
-      aid OtherAid = refl
-      aid (Application a) = in_order-each Worded _ _ (refl, (refl, tt)) (λ p. tt)
+      aid : (a : Option ℕ) → Worded (select_aid img s a)
+      aid None = refl
+      aid (Some a) = in_order-each Worded _ _ (refl, (refl, tt)) (λ p. tt)
 
   read-binary-word : Worded (read_binary img s f)
   unfolding read_binary read_binary_on
@@ -274,9 +252,9 @@ module _ (img : List ℕ) (s : Session) (f : Frame) (d : List ℕ) where
   unfolding read_binary_odd
   read-odd-word = in_order-each Worded _ _ (refl, tt) (λ p. by (read_offset_object d))
     where
-      by : (x : OffsetObject) → Worded (read_odd_by img s f x)
-      by NoOffset = refl
-      by (Offset o) =
+      by : (x : Option ℕ) → Worded (read_odd_by img s f x)
+      by None = refl
+      by (Some o) =
           unfold read_odd_on in
           on-transparent (id_or_current (p1p2 f)) (read_odd_on img o f.ne) (λ t. in_order-each Worded _ _ (refl, (refl, tt)) (λ p. tt))
 
@@ -284,15 +262,15 @@ module _ (img : List ℕ) (s : Session) (f : Frame) (d : List ℕ) where
   unfolding update_binary
   update_word = in_order-each Worded _ _ (refl, tt) (λ p. by (read_update d))
     where
-      by : (u : Update) → Worded (update_by img s (p1p2 f) u)
-      by NoUpdate = refl
-      by (Writing w) =
+      by : (u : Option Writes) → Worded (update_by img s (p1p2 f) u)
+      by None = refl
+      by (Some w) =
           unfold update_on in
           on-biometrics (id_or_current (p1p2 f)) (update_on img w) (λ n. in_order-each Worded _ _ (refl, (refl, tt)) (λ p. tt))
 
   activate-word : Worded (activate_file img s f)
   unfolding activate_file
-  activate-word = in_order-each Worded _ _ (refl, (refl, tt)) (λ p. on-biometrics Current Activate (λ n. tt))
+  activate-word = in_order-each Worded _ _ (refl, (refl, tt)) (λ p. on-biometrics Current (λ (n : ℕ). Ok (Activate n)) (λ n. tt))
 
   append-word : Worded (append_record img s f d)
   unfolding append_record append_on
@@ -306,17 +284,17 @@ module _ (img : List ℕ) (s : Session) (f : Frame) (d : List ℕ) where
       in_order-each Worded _ _ (refl, (refl, tt))
       (λ p. on-record Read (or_current (f.header.p2 / 8)) (read_record_on img s f) (λ r. by r (record_named s r f.header.p1)))
     where
-      by : (r : Rule) (n : RecordNumber) → Worded (read_from img (eqb (f.header.p2 % 8) 4) r n)
-      by r NoNumber = refl
-      by r (Number n) = in_order-each Worded _ _ (refl, tt) (λ p. tt)
+      by : (r : Rule) (n : Option ℕ) → Worded (read_from img (eqb (f.header.p2 % 8) 4) r n)
+      by r None = refl
+      by r (Some n) = in_order-each Worded _ _ (refl, tt) (λ p. tt)
 
   search_word : Worded (search_record img s f d)
   unfolding search_record
   search_word = in_order-each Worded _ _ (refl, (refl, tt)) (λ p. by (read_search d))
     where
-      by : (q : Query) → Worded (search_by img s f.ne d q)
-      by NoQuery = refl
-      by (Ask q) = on-record Read (search_named (file_in d q)) (search_on q f.ne) (λ r. tt)
+      by : (q : Option Search) → Worded (search_by img s f.ne d q)
+      by None = refl
+      by (Some q) = on-record Read (search_named (file_in d q)) (search_on q f.ne) (λ r. tt)
 
   fmm-word : Worded (fmm img s f d)
   unfolding fmm
@@ -327,9 +305,9 @@ module _ (img : List ℕ) (s : Session) (f : Frame) (d : List ℕ) where
       named : (n : Named) → Worded (fmm_named img s f.header.p2 n)
       named n = unfold fmm_named fmm_on in on-file n (fmm_on f.header.p2) (λ g. in_order-each Worded _ _ (refl, tt) (λ p. tt))
 
-      by : (r : Reference) → Worded (fmm_by img s f.header.p2 d r)
-      by NoReference = refl
-      by (Refers q) =
+      by : (r : Option Span) → Worded (fmm_by img s f.header.p2 d r)
+      by None = refl
+      by (Some q) =
           unfold fmm_file in if_else_ind Worded (eqb (length (part d q.at q.len)) 1) (λ e. in_order-each Worded _ _ (refl, tt) (λ p. named _)) (λ e. named _)
 
   -- steps 2 and 3
@@ -350,21 +328,21 @@ module _ (img : List ℕ) (s : Session) (f : Frame) (d : List ℕ) where
 -- ---- links
 
 -- what stops a command amid a chain
-pub data Stopping : Course → Type 0 where
-  stopping : (w : ℕ) → is_refusing w ≡ true → Stopping (Stops w)
-  extending : Stopping Extends
-  going : Stopping Goes
+pub data Stopping : Result Course ℕ → Type 0 where
+  stopping : (w : ℕ) → is_refusing w ≡ true → Stopping (Err w)
+  extending : Stopping (Ok Extends)
+  going : Stopping (Ok Goes)
 
 module _ (ch : Chain) (f : Frame) where
   abbrev w : ℕ
   w = head_status ch f.header
 
-  head-word : eqb w normal ≡ false → Stopping (Stops w)
+  head-word : eqb w normal ≡ false → Stopping (Err w)
   unfolding head_status
   head-word e =
       stopping _ (in_order-each (λ (x : ℕ). eqb x normal ≡ false → is_refusing x ≡ true) _ _ ((λ z. refl), ((λ z. refl), ((λ z. refl), tt))) (λ p z. false-true (sym z)) e)
 
-  short : Stopping (Stops wrong_length)
+  short : Stopping (Err wrong_length)
   short = stopping _ refl
 
   pub turn-word : Stopping (turn ch f)

@@ -1,14 +1,13 @@
 -- READ BINARY has two forms: B0, with the offset in P1-P2, and the odd INS B1, with the offset in the data and a reply that is an object. B1 reaches
 -- every byte of a file; where both reach a byte, they return the same file bytes. Each promise is a type; the theorem of the same name is in
 -- ../proofs/Promises.antt. Read before: Files.antt, Done.antt.
-use Rattle.std.specs.Prelude.{ℕ, ◌/◌, ◌%◌, ◌≤◌, ◌<◌, ◌≡◌, true, List, length, take}
+use Rattle.std.specs.Prelude.{ℕ, ◌/◌, ◌%◌, ◌≤◌, ◌<◌, ◌≡◌, true, List, length, take, Some}
 use Rattle.objects_writer.specs.Number.{big}
 use Rattle.objects_writer.specs.Writing.{tlv}
 use Rattle.objects_templates.specs.OffsetObject.{OffsetSize, offset_data}
 use Rattle.store_files.specs.Files.{file_bytes}
 use Rattle.store_files.specs.declared.Transparent.{Transparent}
 use Rattle.store_files.specs.declared.File.TheVariants.{TransparentFile}
-use Rattle.machine_apdu.specs.declared.Apdu.TheVariants.{Good}
 use Rattle.machine_apdu.specs.declared.Frame.{Frame}
 use Rattle.machine_session.specs.Resolve.{may_inspect}
 use Rattle.machine_session.specs.Verdict.{verdict_number}
@@ -26,7 +25,7 @@ use Rattle.promises.specs.Promises.{data_in}
 -- cmd is a READ BINARY B0 from `offset` of the transparent file t on: P1-P2 is an offset in the current file; or the three high bits of P1 are 100,
 -- its five low bits are a short id, and P2 is the offset [C25]
 pub record EvenRead (s : Session) (ch : Chain) (cmd : List ℕ) (f : Frame) (t : Transparent) (offset : ℕ) : Type 0 where
-  pub shape : whole_of ch cmd ≡ Good f
+  pub shape : whole_of ch cmd ≡ Some f
   pub pair : is_pair f 0x00 0xB0 ≡ true
   pub no_lc : f.lc ≡ 0
   pub le : 1 ≤ f.le
@@ -36,7 +35,7 @@ pub record EvenRead (s : Session) (ch : Chain) (cmd : List ℕ) (f : Frame) (t :
 
 -- cmd is a READ BINARY B1 from `offset` of the transparent file t on: P1-P2 is the file's id, and 0000 means the current file [C25] [C26]
 pub record OddRead (s : Session) (ch : Chain) (cmd : List ℕ) (f : Frame) (t : Transparent) (offset : ℕ) : Type 0 where
-  pub shape : whole_of ch cmd ≡ Good f
+  pub shape : whole_of ch cmd ≡ Some f
   pub pair : is_pair f 0x00 0xB1 ≡ true
   pub lc : 1 ≤ f.lc
   pub le : 1 ≤ f.le

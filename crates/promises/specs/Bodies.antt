@@ -1,10 +1,9 @@
 -- Where the body of a file stands in a card image, as `malquindo_file` tells it. Each promise is a type; the theorem of the same name is in
 -- ../proofs/Promises.antt. Read before: Linked.antt.
-use Rattle.std.specs.Prelude.{ℕ, ◌+◌, ◌-◌, ◌/◌, ◌%◌, ◌≤◌, ◌≡◌, true, List, length}
+use Rattle.std.specs.Prelude.{ℕ, ◌+◌, ◌-◌, ◌/◌, ◌%◌, ◌≤◌, ◌≡◌, true, List, length, Some}
 use Rattle.base.specs.Bytes.{part}
 use Rattle.store_records.specs.Body.{records}
 use Rattle.store_image.specs.Image.{len_at, kind_at, find, has, body, well_formed}
-use Rattle.store_image.specs.declared.Found.TheVariants.{At}
 use Rattle.malquindo.specs.Face.{called, file_result}
 
 -- ---- results: `malquindo_file_place`, `malquindo_file_length`
@@ -25,7 +24,7 @@ pub record FileC (img : List ℕ) (k r : ℕ) : Type 0 where
   pub there_complete : well_formed img ≡ true → has img k ≡ true → 1 ≤ r
   pub there_sound : 1 ≤ r → (well_formed img ≡ true) × (has img k ≡ true)
   -- place and length are those of the section of kind k, within the image, and not of bytes elsewhere that look like it
-  pub stands : 1 ≤ r → find img k ≡ At (file_place_in r) (file_length_in r)
+  pub stands : 1 ≤ r → find img k ≡ Some (file_place_in r, file_length_in r)
   pub within : file_place_in r + file_length_in r ≤ length img
   pub bytes : 1 ≤ r → part img (file_place_in r) (file_length_in r) ≡ body img k
   -- the length and the kind stand in the six bytes before the body

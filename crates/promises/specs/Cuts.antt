@@ -1,15 +1,13 @@
 -- A command that is cut: the traveller lifts the book while it is being stored, and only the first of its stores are made. Each promise is a
 -- type; the theorem of the same name is in ../proofs/Promises.antt. Read before: Calls.antt, Linked.antt.
-use Rattle.std.specs.Prelude.{ℕ, ◌+◌, ◌*◌, ◌/◌, ◌%◌, ◌≤◌, ◌<◌, ◌≡◌, true, false, length, take}
+use Rattle.std.specs.Prelude.{ℕ, ◌+◌, ◌*◌, ◌/◌, ◌%◌, ◌≤◌, ◌<◌, ◌≡◌, true, false, length, take, Some}
 use mathlib.Core.List.{List, [], ◌∷◌, ◌++◌, Memᴰ}
 use Rattle.base.specs.Choice.{if_else}
 use Rattle.store_records.specs.Body.{count, used, record_bytes}
 use Rattle.store_kinds.specs.Rules.{is_biometrics, biometrics_kind}
 use Rattle.store_cut.specs.Stores.{Store, at, run, made}
 use Rattle.store_image.specs.Image.{find, well_formed, body, records_of}
-use Rattle.store_image.specs.declared.Found.TheVariants.{At}
 use Rattle.machine_apdu.specs.Shape.{shape_of}
-use Rattle.machine_apdu.specs.declared.Apdu.TheVariants.{Good}
 use Rattle.machine_apdu.specs.declared.Frame.{Frame}
 use Rattle.machine_session.specs.Session.{session_fits}
 use Rattle.machine_session.specs.Verdict.{verdict_number}
@@ -36,10 +34,10 @@ pub record StoresThere (img : List ℕ) (s : Session) (ch : Chain) (cmd buf : Li
   -- none where the whole command is not answered 9000
   pub none_refused : ((step img s ch cmd buf).answer.status ≡ 0x9000 → ⊥) → c.answer.stores ≡ 0
   -- an append has four more than its data has bytes, ACTIVATE one, no other command any
-  pub append : (f : Frame) → whole_of ch cmd ≡ Good f → is_pair f 0x00 0xE2 ≡ true → (step img s ch cmd buf).answer.status ≡ 0x9000 → c.answer.stores ≡ length (data_of ch cmd) + 4
-  pub activate : (f : Frame) → whole_of ch cmd ≡ Good f → is_pair f 0x00 0x44 ≡ true → (step img s ch cmd buf).answer.status ≡ 0x9000 → c.answer.stores ≡ 1
+  pub append : (f : Frame) → whole_of ch cmd ≡ Some f → is_pair f 0x00 0xE2 ≡ true → (step img s ch cmd buf).answer.status ≡ 0x9000 → c.answer.stores ≡ length (data_of ch cmd) + 4
+  pub activate : (f : Frame) → whole_of ch cmd ≡ Some f → is_pair f 0x00 0x44 ≡ true → (step img s ch cmd buf).answer.status ≡ 0x9000 → c.answer.stores ≡ 1
   -- a link but the last has another CLA
-  pub none_other : (f : Frame) → shape_of cmd ≡ Good f → is_pair f 0x00 0xE2 ≡ false → is_pair f 0x00 0x44 ≡ false → c.answer.stores ≡ 0
+  pub none_other : (f : Frame) → shape_of cmd ≡ Some f → is_pair f 0x00 0xE2 ≡ false → is_pair f 0x00 0x44 ≡ false → c.answer.stores ≡ 0
   -- without stores the image stays
   pub image_kept : c.answer.stores ≡ 0 → c.image ≡ img
 
@@ -83,14 +81,14 @@ pub record AppendCut (img : List ℕ) (s : Session) (ch : Chain) (cmd : List ℕ
   pub room : ℕ
   -- the file that P2 means, where it stands
   pub meant : is_meant_kind s (f.header.p2 / 8) kind ≡ true
-  pub stands : find img kind ≡ At start room
+  pub stands : find img kind ≡ Some (start, room)
   pub stored : (cut img s ch cmd n).image ≡ made (take n (append_list start (body img kind) (data_of ch cmd))) img
 
 -- [CU2] [CU4]
 abbrev pub AppendInOrder : Type 0
 AppendInOrder =
     (img : List ℕ) (s : Session) (ch : Chain) (cmd buf : List ℕ) (f : Frame) (n : ℕ)
-    → whole_of ch cmd ≡ Good f
+    → whole_of ch cmd ≡ Some f
     → is_pair f 0x00 0xE2 ≡ true
     → (step img s ch cmd buf).answer.status ≡ 0x9000
     → AppendCut img s ch cmd f n
@@ -102,14 +100,14 @@ pub record ActivateCut (img : List ℕ) (s : Session) (ch : Chain) (cmd : List �
   pub room : ℕ
   -- the current file, where it stands
   pub of_current : WritesTo img s Current number
-  pub stands : find img (biometrics_kind number) ≡ At start room
+  pub stands : find img (biometrics_kind number) ≡ Some (start, room)
   pub stored : (cut img s ch cmd n).image ≡ made (take n (at start 1 ∷ [])) img
 
 -- [CU3] [CU4]
 abbrev pub ActivateInOrder : Type 0
 ActivateInOrder =
     (img : List ℕ) (s : Session) (ch : Chain) (cmd buf : List ℕ) (f : Frame) (n : ℕ)
-    → whole_of ch cmd ≡ Good f
+    → whole_of ch cmd ≡ Some f
     → is_pair f 0x00 0x44 ≡ true
     → (step img s ch cmd buf).answer.status ≡ 0x9000
     → ActivateCut img s ch cmd n
@@ -128,7 +126,7 @@ RoomUsed =
     (img : List ℕ) (s : Session) (ch : Chain) (cmd : List ℕ) (n : ℕ) (t : Session) (c : Chain) (next buf : List ℕ) (f : Frame)
     → well_formed img ≡ true
     → n < (cut img s ch cmd n).answer.stores
-    → whole_of c next ≡ Good f
+    → whole_of c next ≡ Some f
     → is_pair f 0x00 0xE2 ≡ true
     → NextAppend (step img t c next buf) (step (cut img s ch cmd n).image t c next buf)
 

@@ -2,7 +2,7 @@
 -- tells after one that reads. The command is its bytes: ISO's shape with the frame f, CLA and INS, the data field; the file is the one
 -- that these bytes mean (Files.antt). Each promise is a type; the theorem of the same name is in ../proofs/Promises.antt. READ RECORD and SEARCH
 -- RECORD stand in Promises.antt. Read before: Files.antt, Promises.antt.
-use Rattle.std.specs.Prelude.{ℕ, ◌+◌, ◌-◌, ◌/◌, ◌%◌, ◌≤◌, ◌<◌, min, max, ◌≡◌, true, length, get_or}
+use Rattle.std.specs.Prelude.{ℕ, ◌+◌, ◌-◌, ◌/◌, ◌%◌, ◌≤◌, ◌<◌, min, max, ◌≡◌, true, length, get_or, Some}
 use mathlib.Core.List.{List, [], ◌∷◌, ◌++◌, Memᴰ}
 use Rattle.base.specs.Bytes.{part, splice, AllBytes}
 use Rattle.store_kinds.specs.Biometrics.{state, written, written_bytes}
@@ -17,7 +17,6 @@ use Rattle.objects_templates.specs.Update.{update_data, UpdateSized}
 use Rattle.machine_rights.specs.Rights.{flagged}
 use Rattle.store_files.specs.Files.{id_of, file_bytes}
 use Rattle.store_files.specs.Master.{aid_of}
-use Rattle.store_files.specs.declared.AidName.TheVariants.{Application}
 use Rattle.store_files.specs.declared.Transparent.{Transparent}
 use Rattle.store_files.specs.declared.Transparent.TheVariants.{Biometrics}
 use Rattle.store_files.specs.declared.File.{File}
@@ -28,7 +27,6 @@ use Rattle.machine_session.specs.declared.Session.{Session}
 use Rattle.machine_session.specs.declared.Named.{Named}
 use Rattle.machine_session.specs.declared.Named.TheVariants.{Current, Short, Id}
 use Rattle.machine_session.specs.declared.Access.TheVariants.{Append}
-use Rattle.machine_apdu.specs.declared.Apdu.TheVariants.{Good}
 use Rattle.machine_apdu.specs.declared.Frame.{Frame}
 use Rattle.machine_action.specs.Tests.{p1p2, id_in}
 use Rattle.machine_chain.specs.Chain.{Chain, so_far}
@@ -49,7 +47,7 @@ pub record Only (k : ℕ) (img new : List ℕ) : Type 0 where
 
 -- the command cmd of frame f, with these CLA and INS, is answered 9000 [C13]
 pub record Obeyed (img : List ℕ) (s : Session) (ch : Chain) (cmd buf : List ℕ) (f : Frame) (cla ins : ℕ) : Type 0 where
-  pub shape : whole_of ch cmd ≡ Good f
+  pub shape : whole_of ch cmd ≡ Some f
   pub pair : is_pair f cla ins ≡ true
   pub status : (step img s ch cmd buf).answer.status ≡ 0x9000
 
@@ -170,7 +168,7 @@ ReadOddDone =
 pub record Selected (img : List ℕ) (s : Session) (ch : Chain) (cmd : List ℕ) (f : Frame) (o : Outcome) : Type 0 where
   pub p1_known : Memᴰ f.header.p1 (0x04 ∷ 0x02 ∷ 0x00 ∷ [])
   pub by_aid : f.header.p1 ≡ 0x04
-      → (a : ℕ) × (aid_of (data_of ch cmd) ≡ Application a) × (present img a ≡ true) × (flagged s.rights a ≡ true) × (o.answer.session ≡ entered s a)
+      → (a : ℕ) × (aid_of (data_of ch cmd) ≡ Some a) × (present img a ≡ true) × (flagged s.rights a ≡ true) × (o.answer.session ≡ entered s a)
   pub by_file_id : f.header.p1 ≡ 0x02
       → (file : File) × (length (data_of ch cmd) ≡ 2) × Inspected img s (Id (id_in (data_of ch cmd))) file × (o.answer.session ≡ placed s (OnFile (id_of file)))
   pub by_master : f.header.p1 ≡ 0x00 → (length (data_of ch cmd) ≡ 2) × (id_in (data_of ch cmd) ≡ 0x3F00) × (o.answer.session ≡ entered s 0)

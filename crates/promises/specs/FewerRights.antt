@@ -1,6 +1,6 @@
 -- Fewer rights: commands in two sessions that are alike but for their rights, the second's a subset of the first's. Each promise is a type; the
 -- theorem of the same name is in ../proofs/Promises.antt. Read before: Promises.antt, Links.antt, specs/Joining.antt of machine_rights.
-use Rattle.std.specs.Prelude.{ℕ, zero, suc, ◌+◌, ◌-◌, ◌*◌, ◌^◌, ◌≤◌, ◌<◌, ◌≡◌, true, false, ◌⊎◌, List, [], ◌∷◌, ◌++◌, length, set, drop}
+use Rattle.std.specs.Prelude.{ℕ, zero, suc, ◌+◌, ◌-◌, ◌*◌, ◌^◌, ◌≤◌, ◌<◌, ◌≡◌, true, false, ◌⊎◌, List, [], ◌∷◌, ◌++◌, length, set, drop, Ok}
 use Rattle.base.specs.Bytes.{put}
 use Rattle.store_image.specs.Image.{well_formed}
 use Rattle.machine_rights.specs.Rights.{bit}
@@ -10,7 +10,6 @@ use Rattle.machine_rights.specs.declared.Rights.{Rights}
 use Rattle.machine_session.specs.Session.{opened, session_fits}
 use Rattle.machine_session.specs.declared.Session.{Session}
 use Rattle.machine_session.specs.declared.Place.TheVariants.{Nowhere}
-use Rattle.machine_session.specs.declared.Verdict.TheVariants.{Accepted}
 use Rattle.machine_session_bytes.specs.Layout.{session_in}
 use Rattle.machine_chain.specs.Chain.{Chain, NoChain}
 use Rattle.machine_chain.specs.Layout.{no_chain_bytes}
@@ -37,7 +36,7 @@ outcome_with o r =
 
 -- 6982 and nothing else: image and session as they came, and the buffer, too, but for its first two bytes, the status word [C29]
 abbrev pub only6982 : List ℕ → Session → List ℕ → Outcome
-only6982 img s buf = outcome (record { verdict = Accepted; length = 2; status = 0x6982; session = s }) img (0x69 ∷ 0x82 ∷ drop 2 buf)
+only6982 img s buf = outcome (record { verdict = Ok tt; length = 2; status = 0x6982; session = s }) img (0x69 ∷ 0x82 ∷ drop 2 buf)
 
 -- with the rights `few` the command has the same outcome, and leaves the same chain [C29]
 pub record SameReply (img : List ℕ) (s : Session) (few : Rights) (ch : Chain) (cmd buf : List ℕ) : Type 0 where

@@ -1,12 +1,10 @@
 -- Which file a command means, said of the session, of the ids and short ids of files, and of the command's bytes. The promises do not take it
 -- from the machine's look-ups.
-use Rattle.std.specs.Prelude.{ℕ, ◌/◌, ◌%◌, ◌≡◌, Bool, true, false, ◌&&◌, ◌||◌, length, get_or, eqb}
+use Rattle.std.specs.Prelude.{ℕ, ◌/◌, ◌%◌, ◌≡◌, Bool, true, false, ◌&&◌, ◌||◌, length, get_or, eqb, Option, Some, None}
 use mathlib.Core.List.{List, [], ◌∷◌, Memᴰ}
 use Rattle.base.specs.Choice.{if_else, all_of}
 use Rattle.store_kinds.specs.Rules.{biometrics, rules, rule_of, biometrics_kind}
 use Rattle.store_kinds.specs.declared.rules.Rule.{Rule}
-use Rattle.store_kinds.specs.declared.rules.Ruled.{Ruled}
-use Rattle.store_kinds.specs.declared.rules.Ruled.TheVariants.{Is, Nothing}
 use Rattle.store_kinds.specs.declared.rules.Key.TheVariants.{Kind}
 use Rattle.store_image.specs.Image.{has}
 use Rattle.store_files.specs.Files.{id_of}
@@ -60,9 +58,9 @@ unfoldable pub is_meant_by_search : Session → List ℕ → File → Bool
 is_meant_by_search s v f = if_else (eqb (length v) 1) (is_meant_by_byte s (get_or v 0 0) f) (is_meant s (Id (id_in v)) f)
 
 -- P2 means the record file of a row of the rule table [C7]
-abbrev pub is_meant_row : Session → ℕ → Ruled → Bool
-is_meant_row s x (Is r) = is_meant_by_p2 s x (RecordFile r)
-is_meant_row s x Nothing = false
+abbrev pub is_meant_row : Session → ℕ → Option Rule → Bool
+is_meant_row s x (Some r) = is_meant_by_p2 s x (RecordFile r)
+is_meant_row s x None = false
 
 -- P2 means the record file of kind k [C7]
 unfoldable pub is_meant_kind : Session → ℕ → ℕ → Bool

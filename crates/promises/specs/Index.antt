@@ -1,7 +1,7 @@
 -- An index of the records of a file, as a program in C keeps it beside the file's body: what the results of `malquindo_index_build`,
 -- `malquindo_index_extend` and `malquindo_index_read` tell, and that an index stays right over any calls. Each promise is a type; the theorem of
 -- the same name is in ../proofs/Promises.antt. Read before: Linked.antt, Bodies.antt.
-use Rattle.std.specs.Prelude.{ℕ, ◌+◌, ◌-◌, ◌*◌, ◌/◌, ◌%◌, ◌≤◌, ◌<◌, ◌≡◌, true, false, length, get_or, take, drop, eqb}
+use Rattle.std.specs.Prelude.{ℕ, ◌+◌, ◌-◌, ◌*◌, ◌/◌, ◌%◌, ◌≤◌, ◌<◌, ◌≡◌, true, false, length, get_or, take, drop, eqb, Some}
 use mathlib.Core.List.{List, [], ◌∷◌, Memᴰ}
 use Rattle.std.specs.Borrow.{Bor}
 use Rattle.base.specs.Choice.{if_else}
@@ -14,7 +14,6 @@ use Rattle.store_image.specs.Image.{has, well_formed}
 use Rattle.store_index.specs.Index.{build, build_into, extend, extend_into, measure, IndexedPart}
 use Rattle.machine_session.specs.Session.{place_record}
 use Rattle.machine_session.specs.declared.Session.{Session}
-use Rattle.machine_apdu.specs.declared.Apdu.TheVariants.{Good}
 use Rattle.machine_apdu.specs.declared.Frame.{Frame}
 use Rattle.machine_answer.specs.Outcome.{Outcome}
 use Rattle.machine_session_bytes.specs.Layout.{session_in}
@@ -175,7 +174,7 @@ CIndexReplies =
     → length (history_c k img calls) ≤ length ps
     → AllBytes ses
     → AllBytes cmd
-    → whole_of (chain_of_c ses) cmd ≡ Good f
+    → whole_of (chain_of_c ses) cmd ≡ Some f
     → is_pair f 0x00 0xB2 ≡ true
     → f.header.p2 % 8 ≡ 4
     → is_meant_kind (session_in ses) (f.header.p2 / 8) k ≡ true

@@ -1,7 +1,7 @@
 -- Calls from C: what a program sees that links the functions of include/malquindo.h, and the promises of that. A session is bytes, any
 -- bytes at each call, and a result is one number. Each promise is a type; the theorem of the same name is in ../proofs/Promises.antt.
 -- Read before: Calls.antt, Promises.antt.
-use Rattle.std.specs.Prelude.{ℕ, ◌*◌, ◌/◌, ◌%◌, ◌≤◌, ◌<◌, ◌≡◌, true, false, length, take, drop, eqb}
+use Rattle.std.specs.Prelude.{ℕ, ◌*◌, ◌/◌, ◌%◌, ◌≤◌, ◌<◌, ◌≡◌, true, false, length, take, drop, eqb, Some, Result, Ok, Err}
 use mathlib.Core.List.{List, [], ◌∷◌, ◌++◌, Memᴰ}
 use Rattle.base.specs.Choice.{if_else}
 use Rattle.store_records.specs.Body.{nth}
@@ -12,11 +12,8 @@ use Rattle.base.specs.Bytes.{AllBytes}
 use Rattle.objects_templates.specs.Search.{SearchFields}
 use Rattle.machine_session.specs.Session.{opened}
 use Rattle.machine_session.specs.declared.Refusal.TheVariants.{ShortBuffer, BadImage, BadRights, BadSession}
-use Rattle.machine_session.specs.declared.Verdict.{Verdict}
-use Rattle.machine_session.specs.declared.Verdict.TheVariants.{Accepted, Refused}
 use Rattle.machine_apdu.specs.Shape.{shape_of}
 use Rattle.machine_chain.specs.Chain.{NoChain}
-use Rattle.machine_apdu.specs.declared.Apdu.TheVariants.{Good}
 use Rattle.machine_apdu.specs.declared.Frame.{Frame}
 use Rattle.machine_answer.specs.Outcome.{Outcome, outcome}
 use Rattle.machine.specs.Step.{step}
@@ -25,6 +22,7 @@ use Rattle.malquindo.specs.Face.{open_result, open_session, is_session_c, chain_
 use Rattle.store_move.specs.Moving.{move_card, move_card_into}
 use Rattle.promises.specs.Calls.{is_pair, whole_of, added_by, added_by_cut}
 use Rattle.promises.specs.Promises.{Kept, Answered, Reads, Searching, Names, MovedCard}
+use Rattle.machine_session.specs.declared.Refusal.{Refusal}
 
 -- ---- results: `malquindo_refusal`, `malquindo_length`, `malquindo_status`, `malquindo_moved`, `malquindo_stores`
 
@@ -49,10 +47,10 @@ unfoldable pub cut_stores_in : ℕ → ℕ
 cut_stores_in r = r % 4294967296
 
 -- the verdict of a number [X7]
-unfoldable pub verdict_by : ℕ → Verdict
+unfoldable pub verdict_by : ℕ → Result (Unit {0}) Refusal
 verdict_by n =
-    if_else (eqb n 0) Accepted
-    (if_else (eqb n 1) (Refused ShortBuffer) (if_else (eqb n 2) (Refused BadImage) (if_else (eqb n 3) (Refused BadRights) (Refused BadSession))))
+    if_else (eqb n 0) (Ok tt)
+    (if_else (eqb n 1) (Err ShortBuffer) (if_else (eqb n 2) (Err BadImage) (if_else (eqb n 3) (Err BadRights) (Err BadSession))))
 
 -- all that a caller of `malquindo_command` has afterwards: the three numbers of the result, and the bytes that it lent [X7]
 unfoldable pub seen : Called → Outcome
@@ -179,7 +177,7 @@ CReadsHistory =
     → well_formed img ≡ true
     → AllBytes ses
     → AllBytes cmd
-    → whole_of (chain_of_c ses) cmd ≡ Good f
+    → whole_of (chain_of_c ses) cmd ≡ Some f
     → is_pair f 0x00 0xB2 ≡ true
     → status_in (called (after_c img calls) ses cmd buf).result ≡ 0x9000
     → Reads (session_in ses) f (λ k. history_c k img calls) (seen (called (after_c img calls) ses cmd buf))

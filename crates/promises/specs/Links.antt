@@ -1,10 +1,9 @@
 -- Commands in links: what a link but the last does, and that a command sent in links ends as the same command sent whole. Each promise is a type; the
 -- theorem of the same name is in ../proofs/Promises.antt. Read before: Calls.antt, Promises.antt.
-use Rattle.std.specs.Prelude.{ℕ, ◌+◌, ◌≤◌, ◌≡◌, true, false, ◌⊎◌, length}
+use Rattle.std.specs.Prelude.{ℕ, ◌+◌, ◌≤◌, ◌≡◌, true, false, ◌⊎◌, length, Some}
 use mathlib.Core.List.{List, [], ◌∷◌, ◌++◌, Memᴰ}
 use Rattle.base.specs.Bytes.{part}
 use Rattle.machine_apdu.specs.Shape.{shape_of}
-use Rattle.machine_apdu.specs.declared.Apdu.TheVariants.{Good}
 use Rattle.machine_apdu.specs.declared.Frame.{Frame}
 use Rattle.machine_apdu.specs.declared.Header.{Header}
 use Rattle.machine_session.specs.Verdict.{verdict_number}
@@ -52,7 +51,7 @@ abbrev pub EachLinkAnswered : Type 0
 EachLinkAnswered =
     (img : List ℕ) (s : Session) (ch : Chain) (cmd buf : List ℕ) (f : Frame)
     → verdict_number (step img s ch cmd buf).answer.verdict ≡ 0
-    → shape_of cmd ≡ Good f
+    → shape_of cmd ≡ Some f
     → is_link f.header ≡ true
     → LinkAnswered img s ch cmd f (step img s ch cmd buf) (chain_after img s ch cmd (length buf))
 
@@ -60,10 +59,10 @@ EachLinkAnswered =
 abbrev pub GoesOn : Type 0
 GoesOn =
     (img : List ℕ) (s : Session) (ch : Chain) (cmd buf : List ℕ) (f : Frame)
-    → shape_of cmd ≡ Good f
+    → shape_of cmd ≡ Some f
     → is_link f.header ≡ false
     → ((step img s ch cmd buf).answer.status ≡ 0x9000) ⊎ ((step img s ch cmd buf).answer.status ≡ 0x6282)
-    → whole_of ch cmd ≡ Good (whole_frame ch f)
+    → whole_of ch cmd ≡ Some (whole_frame ch f)
 
 -- ---- a command in links, however it is cut
 
@@ -100,7 +99,7 @@ pieces (l ∷ ls) = l.piece ++ pieces ls
 -- l is a link of a command with the header h: CLA with b5, the other bytes of h, a piece of 1 to 1,024 bytes and no Le; its response buffer is long enough [C28]
 pub record IsLink (h : Header) (l : Link) : Type 0 where
   pub frame : Frame
-  pub shape : shape_of l.command ≡ Good frame
+  pub shape : shape_of l.command ≡ Some frame
   pub class : frame.header.cla ≡ h.cla + 0x10
   pub ins : frame.header.ins ≡ h.ins
   pub p1 : frame.header.p1 ≡ h.p1
@@ -117,11 +116,11 @@ AllLinks h (l ∷ ls) = IsLink h l × AllLinks h ls
 
 -- the command `whole` of frame f, cut into links and a last command with the same Le: the pieces and the data of the last are its data, in order [C28]
 pub record CutInto (whole : List ℕ) (f : Frame) (ls : List Link) (last : List ℕ) : Type 0 where
-  pub shape : shape_of whole ≡ Good f
+  pub shape : shape_of whole ≡ Some f
   pub no_link : is_link f.header ≡ false
   pub links : AllLinks f.header ls
   pub frame : Frame
-  pub last_shape : shape_of last ≡ Good frame
+  pub last_shape : shape_of last ≡ Some frame
   pub last_header : frame.header ≡ f.header
   pub last_le : frame.le ≡ f.le
   pub last_ne : frame.ne ≡ f.ne

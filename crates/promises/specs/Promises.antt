@@ -1,5 +1,5 @@
 -- The promises. Each is a type; the theorem of the same name, in ../proofs/Promises.antt, is its proof.
-use Rattle.std.specs.Prelude.{ℕ, ◌+◌, ◌-◌, ◌*◌, ◌/◌, ◌%◌, ◌≤◌, ◌<◌, ◌≡◌, true, false, ◌⊎◌, length, take, drop, get_or, replicate, leb}
+use Rattle.std.specs.Prelude.{ℕ, ◌+◌, ◌-◌, ◌*◌, ◌/◌, ◌%◌, ◌≤◌, ◌<◌, ◌≡◌, true, false, ◌⊎◌, length, take, drop, get_or, replicate, leb, Some, Ok, Err}
 use mathlib.Core.List.{List, [], ◌∷◌, ◌++◌, Memᴰ}
 use Rattle.base.specs.Choice.{if_else, all_of}
 use Rattle.base.specs.Bytes.{part, AllBytes}
@@ -15,7 +15,6 @@ use Rattle.machine_session.specs.Session.{opened, session_fits}
 use Rattle.machine_session.specs.declared.Place.TheVariants.{OnRecord}
 use Rattle.machine_session.specs.declared.Session.{Session}
 use Rattle.machine_session.specs.declared.Access.TheVariants.{Read}
-use Rattle.machine_apdu.specs.declared.Apdu.TheVariants.{Good}
 use Rattle.machine_apdu.specs.declared.Frame.{Frame}
 use Rattle.machine_apdu.specs.declared.Header.{Header}
 use Rattle.machine_action.specs.Tests.{all_le}
@@ -31,7 +30,6 @@ use Rattle.machine_session_bytes.specs.Layout.{session_in}
 use Rattle.malquindo.specs.Face.{open_session, is_session_c, chain_of_c, called}
 use Rattle.store_move.specs.Moving.{move_card, move_card_into, Numbered}
 use Rattle.store_move.specs.declared.MoveRefusal.{MoveRefusal}
-use Rattle.store_move.specs.declared.Moved.TheVariants.{Image, Refused}
 use Rattle.store_move_laws.specs.Same.{heads, FreeZero}
 use Rattle.promises.specs.Words.{words}
 use Rattle.promises.specs.Files.{is_meant_by_p2, is_meant_by_search, Permitted}
@@ -134,7 +132,7 @@ abbrev pub ReadsHistory : Type 0
 ReadsHistory =
     (img : List ℕ) (calls : List Call) (s : Session) (ch : Chain) (cmd buf : List ℕ) (f : Frame)
     → well_formed img ≡ true
-    → whole_of ch cmd ≡ Good f
+    → whole_of ch cmd ≡ Some f
     → is_pair f 0x00 0xB2 ≡ true
     → (step (after img calls) s ch cmd buf).answer.status ≡ 0x9000
     → Reads s f (λ k. history k img calls) (step (after img calls) s ch cmd buf)
@@ -147,7 +145,7 @@ search_header = record { cla = 0x00; ins = 0xA2; p1 = 0x00; p2 = 0xF8 }
 
 -- the bytes cmd, behind the chain ch, are a SEARCH RECORD with the frame f, and its data is the writing of the fields x [C10]
 pub record SearchCommand (ch : Chain) (cmd : List ℕ) (f : Frame) (x : SearchFields) : Type 0 where
-  pub shape : whole_of ch cmd ≡ Good f
+  pub shape : whole_of ch cmd ≡ Some f
   pub header : f.header ≡ search_header
   pub le : all_le f ≡ true
   pub writes : data_of ch cmd ≡ search_data x
@@ -195,7 +193,7 @@ OnlySearches =
     (img : List ℕ) (s : Session) (ch : Chain) (cmd buf : List ℕ) (f : Frame)
     → AllBytes (so_far ch)
     → AllBytes cmd
-    → whole_of ch cmd ≡ Good f
+    → whole_of ch cmd ≡ Some f
     → is_pair f 0x00 0xA2 ≡ true
     → ((step img s ch cmd buf).answer.status ≡ 0x9000) ⊎ ((step img s ch cmd buf).answer.status ≡ 0x6282)
     → (x : SearchFields) × (r : Rule) × Searching s ch cmd f x r
@@ -207,7 +205,7 @@ SearchRefused =
     → AllBytes (so_far ch)
     → AllBytes cmd
     → verdict_number (step img s ch cmd buf).answer.verdict ≡ 0
-    → whole_of ch cmd ≡ Good f
+    → whole_of ch cmd ≡ Some f
     → f.header ≡ search_header
     → ((x : SearchFields) → data_of ch cmd ≡ search_data x → SearchSized x → ⊥)
     → (step img s ch cmd buf).answer.status ≡ if_else (all_of (leb 1 f.lc ∷ all_le f ∷ [])) 0x6A80 0x6700
@@ -307,7 +305,7 @@ ResultWhole =
 
 -- a move that is refused leaves the target as it was [M10]
 abbrev pub MoveSaysNo : Type 0
-MoveSaysNo = (old list t : List ℕ) (w : MoveRefusal) → move_card old list (length t) ≡ Refused w → move_card_into old list t ≡ t
+MoveSaysNo = (old list t : List ℕ) (w : MoveRefusal) → move_card old list (length t) ≡ Err w → move_card_into old list t ≡ t
 
 -- a move into the target t that answers the length n of the new image [M4] [M10] [M11]
 pub record MovedCard (old list t : List ℕ) (n : ℕ) (new : List ℕ) : Type 0 where
@@ -331,7 +329,7 @@ pub record MovedCard (old list t : List ℕ) (n : ℕ) (new : List ℕ) : Type 0
 
 -- [M11]
 abbrev pub MoveDone : Type 0
-MoveDone = (old list t : List ℕ) (n : ℕ) → move_card old list (length t) ≡ Image n → MovedCard old list t n (take n (move_card_into old list t))
+MoveDone = (old list t : List ℕ) (n : ℕ) → move_card old list (length t) ≡ Ok n → MovedCard old list t n (take n (move_card_into old list t))
 
 -- a move to the same sizes copies an image whose free bytes are zero, and only a short target refuses it [M12]
 abbrev pub SameSizes : Type 0
@@ -340,15 +338,15 @@ SameSizes =
     → well_formed old ≡ true
     → FreeZero old
     → length old ≤ length t
-    → (move_card old (heads old) (length t) ≡ Image (length old)) × (move_card_into old (heads old) t ≡ old ++ drop (length old) t)
+    → (move_card old (heads old) (length t) ≡ Ok (length old)) × (move_card_into old (heads old) t ≡ old ++ drop (length old) t)
 
 -- a move of what was moved is one move to the last list, byte for byte [M13]
 abbrev pub MoveTwice : Type 0
 MoveTwice =
     (old first last t u : List ℕ) (n m : ℕ)
-    → move_card old first (length t) ≡ Image n
-    → move_card (take n (move_card_into old first t)) last (length u) ≡ Image m
-    → (move_card old last (length u) ≡ Image m) × (move_card_into old last u ≡ move_card_into (take n (move_card_into old first t)) last u)
+    → move_card old first (length t) ≡ Ok n
+    → move_card (take n (move_card_into old first t)) last (length u) ≡ Ok m
+    → (move_card old last (length u) ≡ Ok m) × (move_card_into old last u ≡ move_card_into (take n (move_card_into old first t)) last u)
 
 -- the new image's length has room in the 32 bits of the result of `malquindo_move` [X6]
 abbrev pub MoveWhole : Type 0

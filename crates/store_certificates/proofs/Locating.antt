@@ -1,15 +1,14 @@
 -- Which of the two bodies has a certificate, and where it stands there.
 -- Read before: specs/Certificates.antt. Exports: `certificates_ok-body_ok`; `has_number-…` (a number and a count); `Stands`, `stands` (a record is
 -- whole in its body, and place and length are small); `stretch_of-is` (the same, as the code has it); `located-…` (the answer by the tests, in
--- their order); `BothOk`, `Told`, `told` (what an answer tells); `card_part`, `desk_part`, `missing_part`, `refused-part` (what is returned).
+-- their order); `BothOk`, `Told`, `told` (what an answer tells); `card_part`, `desk_part` (what is returned).
 use Prim.Native.Nat.{ℕ, ◌+◌, ◌-◌, ◌≤◌, ◌<◌, min}
 use mathlib.Core.Path.{◌≡◌, refl, sym, ap, ◌∙◌, subst}
-use mathlib.Core.Bool.{true, false, and-true, and-false}
+use mathlib.Core.Bool.{true, false, and-false}
 use mathlib.Core.List.{List, [], ◌∷◌}
 use native.Mathlib.Omega.{arith}
 use lib.ListN.{length}
-use lib.Dec.{leb}
-use borrow.Author.Tests.{lt-leb, le-leb, leb-true}
+use borrow.Author.Tests.{le-leb, leb-true}
 use denote.Ref.{Bor}
 use Rattle.base.specs.Choice.{all_of}
 use Rattle.base.specs.Bytes.{part}
@@ -22,12 +21,12 @@ use Rattle.store_records.proofs.Bodies.{place_lt, ok_at_facts, ok_to-at, body_ok
 use Rattle.store_kinds.specs.Rules.{rule, rules, travel, first_rule, rule_of}
 use Rattle.store_kinds.specs.declared.rules.Key.TheVariants.{Kind}
 use Rattle.store_kinds.specs.declared.rules.Rule.{Rule}
-use Rattle.store_kinds.specs.declared.rules.Ruled.TheVariants.{Is}
 use Rattle.store_kinds.proofs.ByKind.{kind_ok-rule, place_small}
 use Rattle.store_certificates.specs.Certificates.{certificates_ok, has_number, stretch_of, located, CertificatePart}
 use Rattle.store_certificates.specs.declared.Stretch.{Stretch}
 use Rattle.store_certificates.specs.declared.Located.{Located}
 use Rattle.store_certificates.specs.declared.Located.TheVariants.{Card, Desk, Missing, Refused}
+use Rattle.std.specs.Prelude.{Some}
 
 -- ---- one body
 
@@ -35,7 +34,7 @@ use Rattle.store_certificates.specs.declared.Located.TheVariants.{Card, Desk, Mi
 abbrev certificates : Rule
 certificates = rule 0x011A travel 0x011A 0x1A 929 254
 
-certificates_ruled : rule_of (Kind 0x011A) ≡ Is certificates
+certificates_ruled : rule_of (Kind 0x011A) ≡ Some certificates
 unfolding rule_of first_rule rules
 certificates_ruled = refl
 
@@ -45,14 +44,6 @@ unfolding certificates_ok
 certificates_ok-body_ok xs = kind_ok-rule 0x011A xs certificates certificates_ruled
 
 module _ (xs : List ℕ) (n : ℕ) where
-  pub has_number-zero : n < 1 → has_number xs n ≡ false
-  unfolding has_number all_of
-  has_number-zero h = simp (lt-leb _ _ h)
-
-  pub has_number-count : (k : ℕ) → 1 ≤ n → k ≡ count xs → leb n k ≡ has_number xs n
-  unfolding has_number all_of
-  has_number-count k h e = simp (e, le-leb _ _ h, and-true)
-
   pub has_number_accepted : 1 ≤ n → n ≤ count xs → has_number xs n ≡ true
   unfolding has_number
   has_number_accepted h i = all_of_accepted _ (le-leb _ _ h, (le-leb _ _ i, tt))
@@ -107,10 +98,6 @@ stretch_of-is xs n at l c h e f =
 -- ---- which of the two
 
 module _ (card desk : List ℕ) (n : ℕ) where
-  pub located_card_refused : certificates_ok card ≡ false → located card desk n ≡ Refused
-  unfolding located all_of
-  located_card_refused e = simp e
-
   pub located_desk_refused : certificates_ok desk ≡ false → located card desk n ≡ Refused
   unfolding located all_of
   located_desk_refused e = simp (e, and-false)
@@ -123,10 +110,6 @@ module _ (card desk : List ℕ) (n : ℕ) where
     pub located_desk : has_number card n ≡ false → has_number desk n ≡ true → located card desk n ≡ Desk (stretch_of desk n)
     unfolding located all_of
     located_desk e f = simp (c, d, e, f)
-
-    pub located_missing : has_number card n ≡ false → has_number desk n ≡ false → located card desk n ≡ Missing
-    unfolding located all_of
-    located_missing e f = simp (c, d, e, f)
 
   -- both bodies are well formed
   abbrev pub BothOk : Type 0
@@ -172,9 +155,3 @@ module _ (card desk r : Bor (List ℕ)) (n : ℕ) where
       let t = (told card.now desk.now n (Desk s) e).3 in
       let p = whole_part_is desk s.start s.length r t.within c in
       returned (Desk s) e (p.bytes ∙ t.bytes, p)
-
-  pub missing_part : Answers Missing → WholePart card 0 0 r → Returned
-  missing_part e c = let p = whole_part_is card 0 0 r (omega arith) c in returned Missing e (p.bytes, p)
-
-  pub refused-part : Answers Refused → WholePart card 0 0 r → Returned
-  refused-part e c = let p = whole_part_is card 0 0 r (omega arith) c in returned Refused e (p.bytes, p)

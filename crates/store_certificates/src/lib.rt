@@ -17,6 +17,7 @@ pub struct Stretch {
 }
 
 // In which of the two bodies the certificate is, and where; that it is in neither; or that one of the two is no body of travel certificates.
+// (Four cases that a Result of an Option would name no better.)
 #[derive(Clone, Copy)]
 pub enum Located {
     Card(Stretch),
@@ -26,6 +27,7 @@ pub enum Located {
 }
 
 // Whether a body is one of travel certificates.
+#[tactic(auto, unfolding(crate::specs::Certificates::certificates_ok))]
 fn certificates_ok(body: &[u8]) -> bool
     ensures { result ≡ certificates_ok body.now }
 {
@@ -33,16 +35,15 @@ fn certificates_ok(body: &[u8]) -> bool
 }
 
 // Whether a body has a record of that number.
+#[tactic(auto, unfolding(crate::specs::Certificates::has_number, base::specs::Choice::all_of))]
 fn has_number(body: &[u8], n: usize) -> bool
     ensures { result ≡ has_number body.now n }
 {
-    if n < 1 {
-        return false;
-    }
-    n <= body::count(body)
+    1 <= n && n <= body::count(body)
 }
 
 // Where record n of a body stands, behind its length.
+#[tactic(auto, unfolding(crate::specs::Certificates::has_number, base::specs::Choice::all_of))]
 fn stretch_of(body: &[u8], n: usize) -> Stretch
     requires { (certificates_ok body.now ≡ true) × (has_number body.now n ≡ true) }
     ensures { result ≡ stretch_of body.now n }
@@ -55,26 +56,24 @@ fn stretch_of(body: &[u8], n: usize) -> Stretch
 }
 
 // Which of the two bodies has the certificate, and where. Both are looked at before the number is.
+#[tactic(auto, unfolding(crate::specs::Certificates::located, base::specs::Choice::all_of))]
 pub fn locate(card: &[u8], desk: &[u8], reference: u8) -> Located
     ensures { result ≡ located card.now desk.now reference }
 {
-    let n = reference as usize;
-    if !certificates_ok(card) {
-        return Located::Refused;
+    let n = usize::from(reference);
+    if !certificates_ok(card) || !certificates_ok(desk) {
+        Located::Refused
+    } else if has_number(card, n) {
+        Located::Card(stretch_of(card, n))
+    } else if has_number(desk, n) {
+        Located::Desk(stretch_of(desk, n))
+    } else {
+        Located::Missing
     }
-    if !certificates_ok(desk) {
-        return Located::Refused;
-    }
-    if has_number(card, n) {
-        return Located::Card(stretch_of(card, n));
-    }
-    if has_number(desk, n) {
-        return Located::Desk(stretch_of(desk, n));
-    }
-    Located::Missing
 }
 
 // The certificate, as the part of the card's body or of the desk's body that it is; an empty part where it is missing or refused.
+#[tactic(auto, unfolding(crate::specs::Certificates::located, base::specs::Choice::all_of))]
 pub fn named_certificate<'a>(card: &'a [u8], desk: &'a [u8], reference: u8) -> &'a [u8]
     ensures { CertificatePart (located card.now desk.now reference) reference card.entry desk.entry result }
 {

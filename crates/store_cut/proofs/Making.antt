@@ -1,9 +1,9 @@
 -- Stores made one after the other: a run of them, and a list behind a list. Read before: specs/Stores.antt. Exports: `make_stores-length`,
 -- `made-behind`, `made-run`, `length_run` (what stores leave); `make-one`, `make_none`, `make-run` and `make-record` (the code's stores are those of
--- the definition); `length-record_stores`, `Makes`, `makes_as`, `…-accepted` and `…-refused` (how many stores there are, and what the first k
+-- the definition); `length-record_stores`, `Makes`, `…-accepted` and `…-refused` (how many stores there are, and what the first k
 -- leave, where the body can take what is written and where not).
 use Prim.Native.Nat.{ℕ, zero, suc, ◌+◌, ◌-◌, ◌/◌, ◌%◌, ◌≤◌}
-use mathlib.Core.Path.{◌≡◌, refl, sym, ap, ap₂, subst, ◌∙◌}
+use mathlib.Core.Path.{◌≡◌, refl, sym, ap, ap₂, ◌∙◌}
 use mathlib.Core.Bool.{true, false}
 use mathlib.Core.List.{List, [], ◌∷◌, ◌++◌}
 use native.Mathlib.Omega.{arith}
@@ -99,19 +99,21 @@ module _ (xs d : List ℕ) (p n k : ℕ) (ep : p ≡ used xs) (en : n ≡ count 
       ap₂ (λ (u m : ℕ). run u (low ∷ high ∷ d) ++ (at 1 ((m + 1) / 256 % 256) ∷ at 0 ((m + 1) % 256) ∷ [])) (sym ep) (sym en)
       ∙ ap₂ (λ (u v : ℕ). at p low ∷ at u high ∷ (run v d ++ (at 1 count-high ∷ at 0 count_low ∷ []))) q r
 
-  pub make-record : (l₁ l₂ l₃ l₄ l₅ : List ℕ) (k₁ k₂ k₃ k₄ : ℕ)
-      → (k₁ ≡ k - 1) × (l₁ ≡ made (take k (one p low)) xs)
-      → (k₂ ≡ k₁ - 1) × (l₂ ≡ made (take k₁ (one (p + 1) high)) l₁)
-      → (k₃ ≡ k₂ - length d) × (l₃ ≡ made (take k₂ (run (p + 2) d)) l₂)
-      → (k₄ ≡ k₃ - 1) × (l₄ ≡ made (take k₃ (one 1 count-high)) l₃)
-      → l₅ ≡ made (take k₄ (one 0 count_low)) l₄
-      → l₅ ≡ made (take k (record_stores xs d)) xs
-  make-record l₁ l₂ l₃ l₄ l₅ k₁ k₂ k₃ k₄ e₁ e₂ e₃ e₄ e₅ =
-      behind (one p low) _ 1 k k₁ xs l₁ l₅ refl e₁
-      (behind (one (p + 1) high) _ 1 k₁ k₂ l₁ l₂ l₅ refl e₂
-      (behind (run (p + 2) d) _ (length d) k₂ k₃ l₂ l₃ l₅ (length_run (p + 2) d) e₃
-      (behind (one 1 count-high) (one 0 count_low) 1 k₃ k₄ l₃ l₄ l₅ refl e₄ e₅)))
-      ∙ ap (λ (ss : List Store). made (take k ss) xs) (sym as-runs)
+  -- b₁ and b₂ are the bytes of the length, b₄ and b₅ those of the count
+  module _ (l₁ l₂ l₃ l₄ l₅ : List ℕ) (k₁ k₂ k₃ k₄ b₁ b₂ b₄ b₅ : ℕ) where
+    pub make-record : b₁ ≡ low → b₂ ≡ high → b₄ ≡ count-high → b₅ ≡ count_low
+        → (k₁ ≡ k - 1) × (l₁ ≡ made (take k (one p b₁)) xs)
+        → (k₂ ≡ k₁ - 1) × (l₂ ≡ made (take k₁ (one (p + 1) b₂)) l₁)
+        → (k₃ ≡ k₂ - length d) × (l₃ ≡ made (take k₂ (run (p + 2) d)) l₂)
+        → (k₄ ≡ k₃ - 1) × (l₄ ≡ made (take k₃ (one 1 b₄)) l₃)
+        → l₅ ≡ made (take k₄ (one 0 b₅)) l₄
+        → l₅ ≡ made (take k (record_stores xs d)) xs
+    make-record c₁ c₂ c₄ c₅ e₁ e₂ e₃ e₄ e₅ =
+        behind (one p low) _ 1 k k₁ xs l₁ l₅ refl (rw c₁ at e₁)
+        (behind (one (p + 1) high) _ 1 k₁ k₂ l₁ l₂ l₅ refl (rw c₂ at e₂)
+        (behind (run (p + 2) d) _ (length d) k₂ k₃ l₂ l₃ l₅ (length_run (p + 2) d) e₃
+        (behind (one 1 count-high) (one 0 count_low) 1 k₃ k₄ l₃ l₄ l₅ refl (rw c₄ at e₄) (rw c₅ at e₅))))
+        ∙ ap (λ (ss : List Store). made (take k ss) xs) (sym as-runs)
 
 -- ---- how many stores there are, and what the first k leave
 
@@ -126,9 +128,6 @@ abbrev pub Makes : ℕ → Writing → List ℕ → List ℕ → ℕ → List �
 Makes k w xs d r last = (r ≡ length (stores w xs d)) × (last ≡ make_stores k w xs d)
 
 module _ (k : ℕ) (xs d : List ℕ) where
-  pub makes_as : {r : ℕ} {v w : Writing} {last : List ℕ} → w ≡ v → Makes k v xs d r last → Makes k w xs d r last
-  makes_as {r} {last = last} e = subst (λ (u : Writing). Makes k u xs d r last) (sym e)
-
   pub record_accepted : (last : List ℕ) → appendable xs (length d) ≡ true → last ≡ made (take k (record_stores xs d)) xs → Makes k Record xs d (length d + 4) last
   unfolding stores make_stores
   record_accepted last t e = (simp t (sym (length-record_stores xs d)), simp t e)

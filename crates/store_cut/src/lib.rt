@@ -7,7 +7,6 @@ ghost use Rattle.store_records.specs.Body.{count, used, appendable};
 ghost use Rattle.store_cut.specs.declared.Writing.TheVariants.{Record, State};
 ghost use Rattle.store_cut.specs.Stores.{at, run, record_stores, stores, made, make_stores};
 
-use base::natural::saturating_sub;
 use store_kinds::biometrics;
 use store_records::body;
 
@@ -36,7 +35,7 @@ fn make_run(body: &mut [u8], at: usize, bytes: &[u8], k: usize) -> usize
     ensures { (result ≡ k - length bytes.now) × (body.new ≡ made (take k (run at bytes.now)) body.old) }
 {
     base::put(body, at, base::part(bytes, 0, k));
-    saturating_sub(k, bytes.len())
+    k.saturating_sub(bytes.len())
 }
 
 // Makes the first k stores of a record behind the first `at` bytes, which hold n records: its length, its bytes, the count's high byte and
@@ -45,13 +44,22 @@ fn make_record(body: &mut [u8], at: usize, n: usize, data: &[u8], k: usize)
     requires { (at ≡ used body.old) × (n ≡ count body.old) × (appendable body.old (length «data».now) ≡ true) }
     ensures { body.new ≡ made (take k (record_stores body.old «data».now)) body.old }
 {
-    let len = data.len();
-    let more = n + 1;
-    let behind_low = make_one(body, at, (len % 256) as u8, k);
-    let behind_length = make_one(body, at + 1, (len / 256 % 256) as u8, behind_low);
+    let length = (data.len() as u16).to_le_bytes();
+    let count = ((n + 1) as u16).to_le_bytes();
+    let behind_low = make_one(body, at, length[0], k);
+    let behind_length = make_one(body, at + 1, length[1], behind_low);
     let behind_data = make_run(body, at + 2, data, behind_length);
-    let behind_high = make_one(body, 1, (more / 256 % 256) as u8, behind_data);
-    make_one(body, 0, (more % 256) as u8, behind_high);
+    let behind_high = make_one(body, 1, count[1], behind_data);
+    make_one(body, 0, count[0], behind_high);
+}
+
+// Whether a body takes a record of len bytes, behind the first `at` bytes, which hold n records.
+#[tactic(auto, unfolding(store_records::specs::Body::appendable, store_records::specs::Body::append_fits, base::specs::Choice::all_of))]
+fn takes(body: &[u8], at: usize, n: usize, len: usize) -> bool
+    requires { (at ≡ used body.now) × (n ≡ count body.now) }
+    ensures { result ≡ appendable body.now len }
+{
+    body::fits_behind(body, at, len) && len <= 65535 && n < 65535
 }
 
 // Makes the first k stores of an append, where the body can take the record. Answers how many it has in all.
@@ -60,13 +68,7 @@ fn append_stores(body: &mut [u8], data: &[u8], k: usize) -> usize
 {
     let n = body::count(body);
     let at = body::used(body);
-    if !body::fits_behind(body, at, data.len()) {
-        return 0;
-    }
-    if 65535 < data.len() {
-        return 0;
-    }
-    if 65535 <= n {
+    if !takes(body, at, n, data.len()) {
         return 0;
     }
     make_record(body, at, n, data, k);
@@ -86,6 +88,7 @@ fn activate_stores(body: &mut [u8], data: &[u8], k: usize) -> usize
 
 // Makes the first k stores of what is written, all of them where k is more; none where the body cannot take it. Answers how many there
 // are in all.
+#[tactic(auto, unfolding(crate::specs::Stores::make_stores))]
 pub fn make_stores(body: &mut [u8], w: Writing, data: &[u8], k: usize) -> usize
     ensures { (result ≡ length (stores w body.old «data».now)) × (body.new ≡ make_stores k w body.old «data».now) }
 {

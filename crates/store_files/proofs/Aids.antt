@@ -1,21 +1,27 @@
--- Laws of the comparison with the AIDs' beginning. Read specs/Master.antt before. Exports `agrees_to-refused`.
-use Prim.Native.Nat.{ℕ, zero, suc, ◌<◌}
-use mathlib.Core.Path.{◌≡◌, sym}
-use mathlib.Core.Bool.{false, and-false}
-use mathlib.Core.List.{List}
-use native.Mathlib.Omega.{arith}
-use native.Mathlib.Nat.{eq-or-lt_of_le}
-use mathlib.Core.Logic.{⊎_elim}
-use lib.ListN.{get_or}
+-- Laws of the comparison with the AIDs' beginning. Read specs/Master.antt before. Exports `agrees_prefix`.
+use Prim.Native.Nat.{ℕ}
+use mathlib.Core.Path.{◌≡◌, refl, sym, ◌∙◌}
+use mathlib.Core.Bool.{and-true, and-false, and_assoc}
+use mathlib.Core.List.{List, [], ◌∷◌}
 use lib.Dec.{eqb}
+use borrow.Author.Tests.{eq-eqb, ne_eqb, eqb-true, eqb-false}
+use Rattle.std.specs.List.{starts_with}
+use Rattle.base.proofs.Cases.{by_cases}
 use Rattle.store_files.specs.Master.{aid_prefix, agrees_to}
 
--- a byte that does not agree is in the way of all that is longer
-pub agrees_to-refused : (d : List ℕ) (i n : ℕ) → i < n → eqb (get_or d i 0) (get_or aid_prefix i 0) ≡ false → agrees_to d n ≡ false
-unfolding agrees_to
-agrees_to-refused d i zero l e = absurd (omega arith)
-agrees_to-refused d i (suc n) l e =
-    ⊎_elim
-    (λ (q : i ≡ n). let f : eqb (get_or d n 0) (get_or aid_prefix n 0) ≡ false = rw (sym q) e in simp (f, and-false))
-    (λ (q : i < n). simp (agrees_to-refused d i n q e))
-    (eq-or-lt_of_le (omega arith))
+swap : (a b : ℕ) → eqb a b ≡ eqb b a
+swap a b =
+    by_cases (eqb b a)
+    (λ t. eq-eqb a b (sym (eqb-true b a t)) ∙ sym t)
+    (λ f. ne_eqb a b (λ e. eqb-false b a f (sym e)) ∙ sym f)
+
+-- as a prefix, or byte by byte with 0 past the end: the last of the five is not 0
+pub agrees_prefix : (d : List ℕ) → starts_with eqb d aid_prefix ≡ agrees_to d 5
+unfolding agrees_to aid_prefix
+agrees_prefix [] = refl
+agrees_prefix (a ∷ []) = simp and-false
+agrees_prefix (a ∷ b ∷ []) = simp and-false
+agrees_prefix (a ∷ b ∷ c ∷ []) = simp and-false
+agrees_prefix (a ∷ b ∷ c ∷ e ∷ []) = simp and-false
+agrees_prefix (a ∷ b ∷ c ∷ e ∷ f ∷ d) =
+    rw (swap a 0xA0, swap b 0x00, swap c 0x00, swap e 0x02, swap f 0x47) (simp (and_assoc, and-true))

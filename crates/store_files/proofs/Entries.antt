@@ -1,11 +1,11 @@
--- Laws of EF.DIR's entries, as the code stores them one behind the other. Read specs/Master.antt before. Exports `entry-none` and
+-- Laws of EF.DIR's entries, as the code stores them one behind the other. Read specs/Master.antt before. Exports
 -- `entry-some` for one entry, `dir-start`, `dir-turn` and `dir_end` for the loop over the applications.
 use Prim.Native.Nat.{ℕ, zero, suc, ◌+◌, ◌*◌, ◌≤◌}
 use mathlib.Core.Path.{◌≡◌, refl, sym, ap, ap₂, ◌∙◌}
-use mathlib.Core.Bool.{true, false}
+use mathlib.Core.Bool.{true}
 use mathlib.Core.List.{List, ◌++◌}
 use native.Mathlib.Omega.{arith}
-use native.Mathlib.Nat.{add-zero, zero-add}
+use native.Mathlib.Nat.{zero-add}
 use native.Mathlib.Numerals.{add-one}
 use lib.ListN.{length, take, replicate, length-append}
 use lib.Seq.{sets}
@@ -17,10 +17,6 @@ use Rattle.store_files.specs.Master.{aid_prefix, aid, entry, entry_of, entries, 
 
 -- an application's entry as the code stores it
 module _ (img out : List ℕ) (a at : ℕ) where
-  pub entry-none : present img a ≡ false → (at ≡ at + length (entry_of img a)) × (out ≡ sets out at (entry_of img a))
-  unfolding entry_of
-  entry-none e = simp e (sym (add-zero at), refl)
-
   pub entry-some : (b last : List ℕ) → present img a ≡ true → at + 11 ≤ length out → b ≡ entry 0x20 a → last ≡ put out at b
       → (at + 11 ≡ at + length (entry_of img a)) × (last ≡ sets out at (entry_of img a))
   unfolding entry_of entry aid aid_prefix
@@ -45,18 +41,22 @@ pub dir-start : (img b last : List ℕ) → b ≡ entry 0x10 0x01 → last ≡ p
 unfolding entries entry aid aid_prefix
 dir-start img b last f e = e ∙ ap (put empty 0) f ∙ put_accepted empty 0 _ (omega arith)
 
-pub dir-turn : (img bytes last : List ℕ) (at r n : ℕ) → bytes ≡ sets empty 0 (entries img n) → at ≡ length (entries img n)
-    → r ≡ at + length (entry_of img (n + 1)) → last ≡ sets bytes at (entry_of img (n + 1))
-    → (last ≡ sets empty 0 (entries img (n + 1))) × (r ≡ length (entries img (n + 1)))
+-- the entries of the applications before a stand there, n of them; then those up to a do
+pub dir-turn : (img bytes last : List ℕ) (at r n a m : ℕ) → n + 1 ≡ a → n + 1 ≡ m → bytes ≡ sets empty 0 (entries img n)
+    → at ≡ length (entries img n) → r ≡ at + length (entry_of img a) → last ≡ sets bytes at (entry_of img a)
+    → (last ≡ sets empty 0 (entries img m)) × (r ≡ length (entries img m))
 unfolding entries
-dir-turn img bytes last at r n e f g h =
-    let E : List ℕ = entries img n in
+dir-turn img bytes last at r n a m ea em e f g' h' =
+    let g : r ≡ at + length (entry_of img (n + 1)) = rw ea g' in
+    let h : last ≡ sets bytes at (entry_of img (n + 1)) = rw ea h' in
+    rw (← em)
+    (let E : List ℕ = entries img n in
     let one : entries img (n + 1) ≡ E ++ entry_of img (n + 1) = rw add-one in (
       h
           ∙ ap₂ (λ (b : List ℕ) (k : ℕ). sets b k (entry_of img (n + 1))) e f
           ∙ sym (ap (sets empty 0) one ∙ sets-append empty 0 E (entry_of img (n + 1)) ∙ ap (λ (k : ℕ). sets (sets empty 0 E) k (entry_of img (n + 1))) (zero-add (length E))),
       g ∙ ap (λ (k : ℕ). k + length (entry_of img (n + 1))) f ∙ sym (ap length one ∙ length-append E (entry_of img (n + 1))),
-    )
+    ))
 
 pub dir_end : (img bytes : List ℕ) (at n : ℕ) → 3 ≤ n → n ≤ 3 → bytes ≡ sets empty 0 (entries img n) → at ≡ length (entries img n) → (take at bytes ≡ dir img) × (at ≡ length (dir img))
 unfolding dir

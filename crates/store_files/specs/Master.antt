@@ -1,9 +1,7 @@
 -- The two files of the master file, EF.ATR/INFO and EF.DIR, and the AIDs that EF.DIR lists.
-use Rattle.std.specs.Prelude.{ℕ, zero, suc, Bool, true, ◌&&◌, List, [], ◌∷◌, ◌++◌, length, get_or, eqb}
+use Rattle.std.specs.Prelude.{ℕ, zero, suc, Bool, true, ◌&&◌, List, [], ◌∷◌, ◌++◌, length, get_or, eqb, Option, Some, None}
 use Rattle.base.specs.Choice.{if_else, all_of}
 use Rattle.store_image.specs.Image.{present}
-use Rattle.store_files.specs.declared.AidName.{AidName}
-use Rattle.store_files.specs.declared.AidName.TheVariants.{Application, OtherAid}
 
 -- EF.ATR/INFO, a constant [E1]
 unfoldable pub info : List ℕ
@@ -40,9 +38,9 @@ agrees_to d zero = true
 agrees_to d (suc n) = agrees_to d n && eqb (get_or d n 0) (get_or aid_prefix n 0)
 
 -- the application whose AID the data is [L2] [E3]
-unfoldable pub aid_of : List ℕ → AidName
+unfoldable pub aid_of : List ℕ → Option ℕ
 aid_of d =
-    if_else (all_of (eqb (length d) 7 ∷ agrees_to d 5 ∷ eqb (get_or d 5 0) 0x20 ∷ [])) (Application (get_or d 6 0)) OtherAid
+    if_else (all_of (eqb (length d) 7 ∷ agrees_to d 5 ∷ eqb (get_or d 5 0) 0x20 ∷ [])) (Some (get_or d 6 0)) None
 
 -- an application's entry of EF.DIR: the template 61 with the AID in 4F [E4]
 unfoldable pub entry : ℕ → ℕ → List ℕ

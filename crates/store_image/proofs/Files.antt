@@ -12,17 +12,16 @@ use Rattle.base.proofs.Cases.{false-true}
 use Rattle.base.proofs.Parts.{part_mid, length_part, splice_lent, splice-length, splice-part, splice-same}
 use Rattle.store_kinds.specs.Rules.{application_of, kind_ok}
 use Rattle.store_image.specs.Image.{find, is_at, has, present, well_formed, body_by, body, with_body_by, with_body}
-use Rattle.store_image.specs.declared.Found.{Found}
-use Rattle.store_image.specs.declared.Found.TheVariants.{At, Missing}
 use Rattle.store_image.proofs.Splicing.{found-well_formed, found_inside, spliced_find, spliced_other, spliced_well_formed}
+use Rattle.std.specs.Prelude.{Option, Some, None}
 
 -- ---- what a find says of the file
 
 module _ (img : List ℕ) (k : ℕ) where
-  module _ (s n : ℕ) (e : find img k ≡ At s n) where
+  module _ (s n : ℕ) (e : find img k ≡ Some (s, n)) where
     pub body-found : body img k ≡ part img s n
     unfolding body
-    body-found = ap (λ (f : Found). body_by f img) e
+    body-found = ap (λ (f : Option (ℕ × ℕ)). body_by f img) e
 
     pub has-found : has img k ≡ true
     unfolding has
@@ -30,7 +29,7 @@ module _ (img : List ℕ) (k : ℕ) where
 
     pub with_body-found : (b : List ℕ) → with_body img k b ≡ splice img s b
     unfolding with_body
-    with_body-found b = ap (λ (f : Found). with_body_by f img b) e
+    with_body-found b = ap (λ (f : Option (ℕ × ℕ)). with_body_by f img b) e
 
     pub body-length : length (body img k) ≡ n
     body-length = ap length body-found ∙ length_part img s n (found_inside img k s n e)
@@ -44,10 +43,10 @@ module _ (img : List ℕ) (k : ℕ) where
     with_body_lent f last same el =
         splice_lent img s n last (f (body img k)) (el ∙ ap f body_lent) (same (body img k) ∙ body-length) ∙ sym (with_body-found (f (body img k)))
 
-  module _ (e : find img k ≡ Missing) where
+  module _ (e : find img k ≡ None) where
     pub body_missing : body img k ≡ []
     unfolding body
-    body_missing = ap (λ (f : Found). body_by f img) e
+    body_missing = ap (λ (f : Option (ℕ × ℕ)). body_by f img) e
 
     pub has_missing : has img k ≡ false
     unfolding has
@@ -55,28 +54,28 @@ module _ (img : List ℕ) (k : ℕ) where
 
     pub with_body_missing : (b : List ℕ) → img ≡ with_body img k b
     unfolding with_body
-    with_body_missing b = sym (ap (λ (f : Found). with_body_by f img b) e)
+    with_body_missing b = sym (ap (λ (f : Option (ℕ × ℕ)). with_body_by f img b) e)
 
 -- a file that is there has a place
 pub data There (img : List ℕ) (k : ℕ) : Type 0 where
-  there : (s n : ℕ) → find img k ≡ At s n → There img k
+  there : (s n : ℕ) → find img k ≡ Some (s, n) → There img k
 
 pub has-at : (img : List ℕ) (k : ℕ) → has img k ≡ true → There img k
 unfolding has
 has-at img k = go (find img k) refl
   where
-    go : (f : Found) → find img k ≡ f → is_at f ≡ true → There img k
-    go (At s n) e h = there s n e
-    go Missing e h = absurd (let z : ◌≡◌ {A = ℕ} 0 1 = cc in omega arith)
+    go : (f : Option (ℕ × ℕ)) → find img k ≡ f → is_at f ≡ true → There img k
+    go (Some (s, n)) e h = there s n e
+    go None e h = absurd (let z : ◌≡◌ {A = ℕ} 0 1 = cc in omega arith)
 
 -- one that is not there has no body
 pub body_lacking : (img : List ℕ) (k : ℕ) → has img k ≡ false → body img k ≡ []
 unfolding has
 body_lacking img k = go (find img k) refl
   where
-    go : (f : Found) → find img k ≡ f → is_at f ≡ false → body img k ≡ []
-    go (At s n) e h = false-true (sym h)
-    go Missing e h = body_missing img k e
+    go : (f : Option (ℕ × ℕ)) → find img k ≡ f → is_at f ≡ false → body img k ≡ []
+    go (Some (s, n)) e h = false-true (sym h)
+    go None e h = body_missing img k e
 
 -- a file of a well-formed image is right for its kind, and its application is present
 pub body-well_formed : (img : List ℕ) (k : ℕ) → well_formed img ≡ true → has img k ≡ true → kind_ok k (body img k) ≡ true
@@ -95,23 +94,23 @@ has-present img k o h = go (has-at img k h)
 pub with_body-same : (img : List ℕ) (k : ℕ) → with_body img k (body img k) ≡ img
 with_body-same img k = go (find img k) refl
   where
-    go : (f : Found) → find img k ≡ f → with_body img k (body img k) ≡ img
-    go (At s n) e =
+    go : (f : Option (ℕ × ℕ)) → find img k ≡ f → with_body img k (body img k) ≡ img
+    go (Some (s, n)) e =
         with_body-found img k s n e (body img k) ∙ ap (splice img s) (body-found img k s n e) ∙ splice-same img s n (found_inside img k s n e)
-    go Missing e = sym (with_body_missing img k e (body img k))
+    go None e = sym (with_body_missing img k e (body img k))
 
 -- ---- another body of the same length in the place of a file's
 
 module _ (img : List ℕ) (k : ℕ) (b : List ℕ) (h : has img k ≡ true) (len : length b ≡ length (body img k)) where
   -- where that file stands
   pub data Stands : Type 0 where
-    stands : (s : ℕ) → find img k ≡ At s (length b) → with_body img k b ≡ splice img s b → Stands
+    stands : (s : ℕ) → find img k ≡ Some (s, length b) → with_body img k b ≡ splice img s b → Stands
 
   place : Stands
   place = go (has-at img k h)
     where
       go : There img k → Stands
-      go (there s n e) = stands s (e ∙ ap (At s) (sym (len ∙ body-length img k s n e))) (with_body-found img k s n e b)
+      go (there s n e) = stands s (e ∙ ap (λ (m : ℕ). Some (s, m)) (sym (len ∙ body-length img k s n e))) (with_body-found img k s n e b)
 
   pub with_body-find : (j : ℕ) → find (with_body img k b) j ≡ find img j
   with_body-find j = go place
@@ -141,13 +140,13 @@ module _ (img : List ℕ) (k : ℕ) (b : List ℕ) (h : has img k ≡ true) (len
   pub with_body-body_other : (j : ℕ) → (j ≡ k → ⊥) → body (with_body img k b) j ≡ body img j
   with_body-body_other j ne = go place (find img j) refl
     where
-      go : Stands → (f : Found) → find img j ≡ f → body (with_body img k b) j ≡ body img j
-      go (stands s e p) (At t m) d =
+      go : Stands → (f : Option (ℕ × ℕ)) → find img j ≡ f → body (with_body img k b) j ≡ body img j
+      go (stands s e p) (Some (t, m)) d =
           body-found (with_body img k b) j t m (with_body-find j ∙ d)
           ∙ ap (λ (l : List ℕ). part l t m) p
           ∙ spliced_other img k s b e j t m ne d
           ∙ sym (body-found img j t m d)
-      go (stands s e p) Missing d = body_missing (with_body img k b) j (with_body-find j ∙ d) ∙ sym (body_missing img j d)
+      go (stands s e p) None d = body_missing (with_body img k b) j (with_body-find j ∙ d) ∙ sym (body_missing img j d)
 
   pub with_body-well_formed : well_formed img ≡ true → kind_ok k b ≡ true → well_formed (with_body img k b) ≡ true
   with_body-well_formed o r = go place
@@ -159,6 +158,6 @@ module _ (img : List ℕ) (k : ℕ) (b : List ℕ) (h : has img k ≡ true) (len
 pub with_body-find-same : (img : List ℕ) (k : ℕ) (b : List ℕ) → length b ≡ length (body img k) → (j : ℕ) → find (with_body img k b) j ≡ find img j
 with_body-find-same img k b l j = go (find img k) refl
   where
-    go : (f : Found) → find img k ≡ f → find (with_body img k b) j ≡ find img j
-    go (At s n) e = with_body-find img k b (has-found img k s n e) l j
-    go Missing e = ap (λ (x : List ℕ). find x j) (sym (with_body_missing img k e b))
+    go : (f : Option (ℕ × ℕ)) → find img k ≡ f → find (with_body img k b) j ≡ find img j
+    go (Some (s, n)) e = with_body-find img k b (has-found img k s n e) l j
+    go None e = ap (λ (x : List ℕ). find x j) (sym (with_body_missing img k e b))

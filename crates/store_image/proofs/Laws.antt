@@ -26,9 +26,6 @@ use Rattle.store_image.specs.Image.{len_at, kind_at, find, has, present, well_fo
 use Rattle.store_kinds.specs.declared.rules.Key.{Key}
 use Rattle.store_kinds.specs.declared.rules.Key.TheVariants.{Kind}
 use Rattle.store_kinds.specs.declared.rules.Rule.{Rule}
-use Rattle.store_kinds.specs.declared.rules.Ruled.{Ruled}
-use Rattle.store_kinds.specs.declared.rules.Ruled.TheVariants.{Is, Nothing}
-use Rattle.store_image.specs.declared.Found.TheVariants.{At, Missing}
 use Rattle.store_records.proofs.Bodies as bodies
 use Rattle.store_records.proofs.Appending as appending
 use Rattle.store_kinds.proofs.Updating as updating
@@ -39,25 +36,26 @@ use Rattle.store_cut.proofs.Cuts as cuts
 use Rattle.store_image.proofs.Presence as presence
 use Rattle.store_image.proofs.Splicing as splicing
 use Rattle.store_image.proofs.Files as files
+use Rattle.std.specs.Prelude.{Option, Some, None}
 
 -- ---- the rule table
 
 -- what a key finds: sizes in their bounds, an application from 1 to 3 that is the kind's high byte, and a kind, an id and a short id
 -- each of which finds this rule and no other
-pub rule_regular : (key : Key) (r : Rule) → rule_of key ≡ Is r → table.Regular r
+pub rule_regular : (key : Key) (r : Rule) → rule_of key ≡ Some r → table.Regular r
 rule_regular = table.rule_regular
 
-pub rule_key : (key : Key) (r : Rule) → rule_of key ≡ Is r → has_key key r ≡ true
+pub rule_key : (key : Key) (r : Rule) → rule_of key ≡ Some r → has_key key r ≡ true
 rule_key = table.rule_key
 
 -- no record file has the kind of a biometrics file
-pub biometrics_unruled : (k : ℕ) → is_biometrics k ≡ true → rule_of (Kind k) ≡ Nothing
+pub biometrics_unruled : (k : ℕ) → is_biometrics k ≡ true → rule_of (Kind k) ≡ None
 unfolding is_biometrics
 biometrics_unruled k b = go (rule_of (Kind k)) refl
   where
-    go : (f : Ruled) → rule_of (Kind k) ≡ f → rule_of (Kind k) ≡ Nothing
-    go Nothing e = e
-    go (Is r) e =
+    go : (f : Option Rule) → rule_of (Kind k) ≡ f → rule_of (Kind k) ≡ None
+    go None e = e
+    go (Some r) e =
         let g = table.rule_regular (Kind k) r e in
         let same : r.kind ≡ k = eqb-true r.kind k (table.rule_key (Kind k) r e) in
         let low : 0x0401 ≤ k = leb-true _ _ (all_of_facts _ b).0 in
@@ -194,24 +192,24 @@ module _ (xs : List ℕ) (o : bio_ok xs ≡ true) where
 -- ---- an image and its files
 
 -- a section that is found lies within the image, and two of different kinds lie apart
-pub found_inside : (img : List ℕ) (k s n : ℕ) → find img k ≡ At s n → s + n ≤ length img
+pub found_inside : (img : List ℕ) (k s n : ℕ) → find img k ≡ Some (s, n) → s + n ≤ length img
 found_inside = splicing.found_inside
 
 -- its length and its kind stand in the six bytes before it
-pub found-head : (img : List ℕ) (k s n : ℕ) → find img k ≡ At s n → (6 ≤ s) × (len_at img (s - 6) ≡ n) × (kind_at img (s - 6) ≡ k)
+pub found-head : (img : List ℕ) (k s n : ℕ) → find img k ≡ Some (s, n) → (6 ≤ s) × (len_at img (s - 6) ≡ n) × (kind_at img (s - 6) ≡ k)
 found-head = splicing.found-head
 
-pub found-apart : (img : List ℕ) (k s n j t m : ℕ) → (j ≡ k → ⊥) → find img k ≡ At s n → find img j ≡ At t m → (t + m ≤ s) ⊎ (s + n ≤ t)
+pub found-apart : (img : List ℕ) (k s n j t m : ℕ) → (j ≡ k → ⊥) → find img k ≡ Some (s, n) → find img j ≡ Some (t, m) → (t + m ≤ s) ⊎ (s + n ≤ t)
 found-apart = splicing.found-apart
 
-pub found-body : (img : List ℕ) (k s n : ℕ) → find img k ≡ At s n → body img k ≡ part img s n
+pub found-body : (img : List ℕ) (k s n : ℕ) → find img k ≡ Some (s, n) → body img k ≡ part img s n
 found-body = files.body-found
 
 -- a file is there where a section of its kind is found. One that is there is right for its kind; one that is not has no body
-pub has-found : (img : List ℕ) (k s n : ℕ) → find img k ≡ At s n → has img k ≡ true
+pub has-found : (img : List ℕ) (k s n : ℕ) → find img k ≡ Some (s, n) → has img k ≡ true
 has-found = files.has-found
 
-pub has_missing : (img : List ℕ) (k : ℕ) → find img k ≡ Missing → has img k ≡ false
+pub has_missing : (img : List ℕ) (k : ℕ) → find img k ≡ None → has img k ≡ false
 has_missing = files.has_missing
 
 pub body-well_formed : (img : List ℕ) (k : ℕ) → well_formed img ≡ true → has img k ≡ true → kind_ok k (body img k) ≡ true
@@ -221,14 +219,14 @@ pub body_lacking : (img : List ℕ) (k : ℕ) → has img k ≡ false → body i
 body_lacking = files.body_lacking
 
 -- the record files of an application that is present are there, and the application of a file that is there is present
-pub present-has : (img : List ℕ) (key : Key) (r : Rule) → rule_of key ≡ Is r → present img r.application ≡ true → has img r.kind ≡ true
+pub present-has : (img : List ℕ) (key : Key) (r : Rule) → rule_of key ≡ Some r → present img r.application ≡ true → has img r.kind ≡ true
 present-has = presence.present-has
 
 pub has-present : (img : List ℕ) (k : ℕ) → well_formed img ≡ true → has img k ≡ true → present img (application_of k) ≡ true
 has-present = files.has-present
 
 -- the files of a well-formed image are well formed
-pub record_file : (img : List ℕ) (k : ℕ) (r : Rule) → well_formed img ≡ true → rule_of (Kind k) ≡ Is r → has img k ≡ true → body_ok r.longest r.most (body img k) ≡ true
+pub record_file : (img : List ℕ) (k : ℕ) (r : Rule) → well_formed img ≡ true → rule_of (Kind k) ≡ Some r → has img k ≡ true → body_ok r.longest r.most (body img k) ≡ true
 record_file img k r o e h = sym (by_kind.kind_ok-rule k (body img k) r e) ∙ files.body-well_formed img k o h
 
 pub biometrics-file : (img : List ℕ) (k : ℕ) → well_formed img ≡ true → is_biometrics k ≡ true → has img k ≡ true → bio_ok (body img k) ≡ true
@@ -248,7 +246,7 @@ changed img k b o h l r =
 -- what is asked of an append for it to be answered 9000: the file is there, the record has 1 to longest bytes, there are fewer than the
 -- most records, and it fits
 pub record Accepts (img : List ℕ) (k : ℕ) (r : Rule) (n : ℕ) : Type 0 where
-  pub ruled : rule_of (Kind k) ≡ Is r
+  pub ruled : rule_of (Kind k) ≡ Some r
   pub stands : has img k ≡ true
   pub some : 1 ≤ n
   pub short : n ≤ r.longest

@@ -7,12 +7,12 @@ use mathlib.Core.List.{List}
 use Rattle.store_kinds.specs.Rules.{rule_of}
 use Rattle.store_kinds.specs.declared.rules.Key.{Key}
 use Rattle.store_kinds.specs.declared.rules.Rule.{Rule}
-use Rattle.store_kinds.specs.declared.rules.Ruled.TheVariants.{Is}
 use Rattle.store_kinds.proofs.Presence.{present_by-has, present_by-same}
 use Rattle.store_image.specs.Image.{has, present}
+use Rattle.std.specs.Prelude.{Some}
 
 -- the record files of an application that is present are there
-pub present-has : (img : List ℕ) (key : Key) (r : Rule) → rule_of key ≡ Is r → present img r.application ≡ true → has img r.kind ≡ true
+pub present-has : (img : List ℕ) (key : Key) (r : Rule) → rule_of key ≡ Some r → present img r.application ≡ true → has img r.kind ≡ true
 unfolding present
 present-has img = present_by-has (has img)
 

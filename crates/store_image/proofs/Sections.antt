@@ -15,7 +15,7 @@ use Rattle.base.proofs.Cases.{all_of_facts}
 use Rattle.store_kinds.specs.Rules.{application_of, kind_ok}
 use Rattle.store_image.specs.Image.{len_at, kind_at, body_at, end_at, choose, find_from, find, present, section_ok, sections_ok, well_formed}
 use Rattle.store_image.specs.Loops.{present_behind}
-use Rattle.store_image.specs.declared.Found.TheVariants.{At, Missing}
+use Rattle.std.specs.Prelude.{Some, None}
 
 -- ---- looking for a kind
 
@@ -29,37 +29,37 @@ unfolding find
 seek_start img k = record { fuel = length img; enough = omega arith; same = refl }
 
 -- nothing is found past the end, or from a section on that is not whole
-pub find_from-short : (n : ℕ) (img : List ℕ) (p k : ℕ) → length img < end_at img p → find_from n img p k ≡ Missing
+pub find_from-short : (n : ℕ) (img : List ℕ) (p k : ℕ) → length img < end_at img p → find_from n img p k ≡ None
 unfolding find_from
 find_from-short zero img p k h = refl
 find_from-short (suc n) img p k h = simp (lt-leb _ _ h)
 
 -- at a whole section there is fuel left
 find-step : (n : ℕ) (img : List ℕ) (p k : ℕ) → length img ≤ p + n → end_at img p ≤ length img
-    → (m : ℕ) × (length img ≤ end_at img p + m) × (find_from n img p k ≡ choose true (eqb (kind_at img p) k) (At (p + 6) (len_at img p)) (find_from m img (end_at img p) k))
+    → (m : ℕ) × (length img ≤ end_at img p + m) × (find_from n img p k ≡ choose true (eqb (kind_at img p) k) (Some (p + 6, len_at img p)) (find_from m img (end_at img p) k))
 unfolding find_from
 find-step zero img p k e h = absurd (omega arith)
 find-step (suc n) img p k e h = (n, omega arith, simp (le-leb _ _ h))
 
 -- a turn of the walk at p, as the code has the section's length l and kind j
 module _ (img : List ℕ) (k p : ℕ) (s : Seeking img k p) where
-  pub seek_none : length img < end_at img p → Missing ≡ find img k
+  pub seek_none : length img < end_at img p → None ≡ find img k
   seek_none h = sym (s.same ∙ find_from-short s.fuel img p k h)
 
   module _ (l j : ℕ) (el : l ≡ len_at img p) (ej : j ≡ kind_at img p) (h : p + 6 + l ≤ length img) where
-    turn : (m : ℕ) × (length img ≤ end_at img p + m) × (find_from s.fuel img p k ≡ choose true (eqb (kind_at img p) k) (At (p + 6) (len_at img p)) (find_from m img (end_at img p) k))
+    turn : (m : ℕ) × (length img ≤ end_at img p + m) × (find_from s.fuel img p k ≡ choose true (eqb (kind_at img p) k) (Some (p + 6, len_at img p)) (find_from m img (end_at img p) k))
     turn = find-step s.fuel img p k s.enough (omega arith)
 
-    pub seek_hit : j ≡ k → At (p + 6) l ≡ find img k
+    pub seek_hit : j ≡ k → Some (p + 6, l) ≡ find img k
     seek_hit e =
-        ap (At (p + 6)) el
-        ∙ sym (s.same ∙ turn.2 ∙ ap (λ (b : Bool). choose true b (At (p + 6) (len_at img p)) (find_from turn.0 img (end_at img p) k)) (eq-eqb (kind_at img p) k (sym ej ∙ e)))
+        ap (λ (m : ℕ). Some (p + 6, m)) el
+        ∙ sym (s.same ∙ turn.2 ∙ ap (λ (b : Bool). choose true b (Some (p + 6, len_at img p)) (find_from turn.0 img (end_at img p) k)) (eq-eqb (kind_at img p) k (sym ej ∙ e)))
 
     pub seek_next : (j ≡ k → ⊥) → Seeking img k (p + 6 + l)
     seek_next e = rw el (record {
       fuel = turn.0;
       enough = turn.1;
-      same = s.same ∙ turn.2 ∙ ap (λ (b : Bool). choose true b (At (p + 6) (len_at img p)) (find_from turn.0 img (end_at img p) k)) (ne_eqb (kind_at img p) k (λ q. e (ej ∙ q)));
+      same = s.same ∙ turn.2 ∙ ap (λ (b : Bool). choose true b (Some (p + 6, len_at img p)) (find_from turn.0 img (end_at img p) k)) (ne_eqb (kind_at img p) k (λ q. e (ej ∙ q)));
     })
 
 -- ---- one section
@@ -74,10 +74,6 @@ module _ (img : List ℕ) (p last : ℕ) where
   pub section_ok_facts : section_ok img p last ≡ true → SectionOk
   unfolding section_ok
   section_ok_facts e = let h = all_of_facts _ e in record { whole = leb-true _ _ h.0; after = ltb-true _ _ h.1.0; right = h.1.1.0; beside = h.1.1.1.0 }
-
-  pub section_ok-short : length img < end_at img p → section_ok img p last ≡ false
-  unfolding section_ok all_of
-  section_ok-short h = simp (lt-leb _ _ h)
 
   pub section_ok-order : kind_at img p ≤ last → section_ok img p last ≡ false
   unfolding section_ok all_of

@@ -1,6 +1,6 @@
 -- The card image: sections one behind the other, each a file's body with its length in four bytes and its kind in two before it, both
 -- little-endian.
-use Rattle.std.specs.Prelude.{ℕ, zero, suc, ◌+◌, Bool, true, false, ◌&&◌, ◌||◌, List, [], ◌∷◌, length, leb, ltb, eqb}
+use Rattle.std.specs.Prelude.{ℕ, zero, suc, ◌+◌, Bool, true, false, ◌&&◌, ◌||◌, List, [], ◌∷◌, length, leb, ltb, eqb, Option, Some, None}
 use Rattle.base.specs.Choice.{all_of}
 use Rattle.base.specs.Bytes.{part, splice}
 use Rattle.store_records.specs.Little.{le16, le32}
@@ -9,8 +9,6 @@ use Rattle.store_kinds.specs.Biometrics.{update, activate}
 use Rattle.store_cut.specs.Stores.{Store, stores, make_stores}
 use Rattle.store_cut.specs.declared.Writing.{Writing}
 use Rattle.store_kinds.specs.Rules.{application_of, present_by, kind_ok}
-use Rattle.store_image.specs.declared.Found.{Found}
-use Rattle.store_image.specs.declared.Found.TheVariants.{At, Missing}
 
 -- the section at p: its body's length, its kind, its body, and the place behind it [I3]
 abbrev pub len_at : List ℕ → ℕ → ℕ
@@ -31,25 +29,25 @@ end_at img p = p + 6 + len_at img p
 -- ---- where the body of a kind stands
 
 -- nothing where the section at hand is not whole; its body where it is the one; else what is found further on [I8]
-abbrev pub choose : Bool → Bool → Found → Found → Found
-choose false one here further = Missing
+abbrev pub choose : Bool → Bool → Option (ℕ × ℕ) → Option (ℕ × ℕ) → Option (ℕ × ℕ)
+choose false one here further = None
 choose true true here further = here
 choose true false here further = further
 
 -- from the section at p on: where the body of the first section of kind k begins, and its length. n bounds the sections passed [I8]
-unfoldable pub find_from : ℕ → List ℕ → ℕ → ℕ → Found
-find_from zero img p k = Missing
+unfoldable pub find_from : ℕ → List ℕ → ℕ → ℕ → Option (ℕ × ℕ)
+find_from zero img p k = None
 find_from (suc n) img p k =
-    choose (leb (end_at img p) (length img)) (eqb (kind_at img p) k) (At (p + 6) (len_at img p)) (find_from n img (end_at img p) k)
+    choose (leb (end_at img p) (length img)) (eqb (kind_at img p) k) (Some (p + 6, len_at img p)) (find_from n img (end_at img p) k)
 
 -- in the whole image. (A section has six bytes or more, so there are no more of them than bytes.) [I8]
-unfoldable pub find : List ℕ → ℕ → Found
+unfoldable pub find : List ℕ → ℕ → Option (ℕ × ℕ)
 find img k = find_from (length img) img 0 k
 
 -- [I8]
-abbrev pub is_at : Found → Bool
-is_at (At s n) = true
-is_at Missing = false
+abbrev pub is_at : Option (ℕ × ℕ) → Bool
+is_at (Some (s, n)) = true
+is_at None = false
 
 -- a section of kind k is there [I8]
 unfoldable pub has : List ℕ → ℕ → Bool
@@ -85,9 +83,9 @@ well_formed img = all_of (leb (length img) 262144 ∷ sections_ok (length img) i
 -- ---- an image as its files
 
 -- a body by where it was found [I9]
-abbrev pub body_by : Found → List ℕ → List ℕ
-body_by (At s n) img = part img s n
-body_by Missing img = []
+abbrev pub body_by : Option (ℕ × ℕ) → List ℕ → List ℕ
+body_by (Some (s, n)) img = part img s n
+body_by None img = []
 
 -- the body of the file of kind k; nothing where there is none [I9]
 unfoldable pub body : List ℕ → ℕ → List ℕ
@@ -98,9 +96,9 @@ unfoldable pub records_of : List ℕ → ℕ → List (List ℕ)
 records_of img k = records (body img k)
 
 -- the image with b for the body that was found [I10]
-abbrev pub with_body_by : Found → List ℕ → List ℕ → List ℕ
-with_body_by (At s n) img b = splice img s b
-with_body_by Missing img b = img
+abbrev pub with_body_by : Option (ℕ × ℕ) → List ℕ → List ℕ → List ℕ
+with_body_by (Some (s, n)) img b = splice img s b
+with_body_by None img b = img
 
 -- the image with b for the body of the file of kind k [I10]
 unfoldable pub with_body : List ℕ → ℕ → List ℕ → List ℕ

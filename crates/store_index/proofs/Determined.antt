@@ -7,8 +7,6 @@ use denote.Ref.{Bor}
 use Rattle.base.specs.Determined.{Determined, DeterminedAddress}
 use Rattle.base.proofs.Lending.{part_of_same}
 use Rattle.store_index.specs.Index.{measure, IndexedPart}
-use Rattle.store_index.specs.declared.Indexed.{Indexed}
-use Rattle.store_index.specs.declared.Indexed.TheVariants.{Counted, Refused}
 use Rattle.store_index.proofs.build.Kinds as build-kinds
 use Rattle.store_index.proofs.build.Reads as build-reads
 use Rattle.store_index.proofs.extend.Kinds as extend-kinds
@@ -17,6 +15,7 @@ use Rattle.store_index.proofs.measure.Kinds as measure-kinds
 use Rattle.store_index.proofs.measure.Reads as measure-reads
 use Rattle.store_index.proofs.read.Kinds as read-kinds
 use Rattle.store_index.proofs.read.Reads as read-reads
+use Rattle.std.specs.Prelude.{Option, Some, None}
 
 pub build_determined : Determined build-kinds.ps build-kinds.r build-reads.Post
 build_determined κs a e f p q i = ((p.0 ∙ sym q.0) i, (tt, (tt, ((p.1 ∙ sym q.1) i, tt))))
@@ -28,9 +27,9 @@ pub measure_determined : Determined measure-kinds.ps measure-kinds.r measure-rea
 measure_determined κs a e f p q i = ((p ∙ sym q) i, e.1)
 
 -- two parts that are returned for one answer are the same part
-same : (x : Indexed) (ps : List ℕ) (n : ℕ) (body r t : Bor (List ℕ)) → IndexedPart x ps n body r → IndexedPart x ps n body t → (r.now ≡ t.now) × (r.ref_ptr ≡ t.ref_ptr)
-same (Counted l) ps n body r t p q = part_of_same body _ l r t p q
-same Refused ps n body r t p q = part_of_same body 0 0 r t p q
+same : (x : Option ℕ) (ps : List ℕ) (n : ℕ) (body r t : Bor (List ℕ)) → IndexedPart x ps n body r → IndexedPart x ps n body t → (r.now ≡ t.now) × (r.ref_ptr ≡ t.ref_ptr)
+same (Some l) ps n body r t p q = part_of_same body _ l r t p q
+same None ps n body r t p q = part_of_same body 0 0 r t p q
 
 pub read_determined : DeterminedAddress read-kinds.ps read-reads.Post
 read_determined κs a e f p q =

@@ -24,15 +24,14 @@ use Rattle.store_records.proofs.Growing.{length_at, count_grows, place_kept}
 use Rattle.store_kinds.specs.declared.rules.Key.TheVariants.{Kind}
 use Rattle.store_kinds.proofs.Table.{rule_regular}
 use Rattle.store_index.specs.Index.{places_to, record_file_ok, build, build_into, extend, extend_into, place_for, measure, IndexedPart}
-use Rattle.store_index.specs.declared.Indexed.{Indexed}
-use Rattle.store_index.specs.declared.Indexed.TheVariants.{Counted, Refused}
 use Rattle.store_index.proofs.Places.{length-places, get_d_places, places-turn, record_file_ok_facts, record_file_ok-body_ok}
 use Rattle.store_index.proofs.Answering.{build-done, extend-done, measure-zero, measure_past, measure-whole}
+use Rattle.std.specs.Prelude.{Option, Some, None}
 
 -- ---- what was built
 
 module _ (k : ℕ) (xs ps : List ℕ) (e : record_file_ok k xs ≡ true) (h : count xs ≤ length ps) where
-  pub build_counts : build k xs ps ≡ Counted (count xs)
+  pub build_counts : build k xs ps ≡ Some (count xs)
   build_counts = sym (build-done k xs ps (count xs) _ e refl h refl).0
 
   pub build_list : build_into k xs ps ≡ sets ps 0 (places_to xs (count xs))
@@ -60,7 +59,7 @@ module _ (k : ℕ) (xs : List ℕ) (e : record_file_ok k xs ≡ true) where
 
   -- record n by its place: how many bytes it has, and the bytes
   pub record Read (n : ℕ) : Type 0 where
-    pub counted : measure xs index n ≡ Counted (length (nth (records xs) n))
+    pub counted : measure xs index n ≡ Some (length (nth (records xs) n))
     pub small : length (nth (records xs) n) ≤ 929
     pub bytes : part xs (place xs (n - 1) + 2) (length (nth (records xs) n)) ≡ nth (records xs) n
 
@@ -77,13 +76,13 @@ module _ (k : ℕ) (xs : List ℕ) (e : record_file_ok k xs ≡ true) where
       let m = length-places xs (count xs) in
       record {
         counted = sym (measure-whole xs index n h (omega arith) (subst (λ (x : ℕ). next_place xs x ≤ length xs) (sym p) a.whole))
-            ∙ ap Counted (ap (le16 xs) p ∙ l);
+            ∙ ap Some (ap (le16 xs) p ∙ l);
         small = omega (arith, a.short, (rule_regular (Kind k) r o.ruled).long);
         bytes = ap (part xs (q + 2)) (sym l) ∙ b;
       }
 
   -- no other number reads
-  pub reads_none : (n : ℕ) → (1 ≤ n → n ≤ count xs → ⊥) → measure xs index n ≡ Refused
+  pub reads_none : (n : ℕ) → (1 ≤ n → n ≤ count xs → ⊥) → measure xs index n ≡ None
   reads_none zero f = sym (measure-zero xs index 0 (omega arith))
   reads_none (suc n) f =
       by_cases (leb (suc n) (count xs))
@@ -96,7 +95,7 @@ module _ (k : ℕ) (xs : List ℕ) (e : record_file_ok k xs ≡ true) where
   read_returns body r n b h i p =
       let a = reads_record n h i in
       let l : ℕ = length (nth (records xs) n) in
-      let q : PartOf body (get_or index (n - 1) 0 + 2) l r = subst (λ (x : Indexed). IndexedPart x index n body r) a.counted p in
+      let q : PartOf body (get_or index (n - 1) 0 + 2) l r = subst (λ (x : Option ℕ). IndexedPart x index n body r) a.counted p in
       q.bytes ∙ ap₂ (λ (y : List ℕ) (x : ℕ). part y (x + 2) l) b (get_d_places xs (count xs) (n - 1) (omega arith)) ∙ a.bytes
 
 -- ---- a body that changed
@@ -126,7 +125,7 @@ module _ (k : ℕ) (xs later : List ℕ) (more : List (List ℕ)) (e : record_fi
       ∙ sym (build_list k xs ps e (omega arith))
 
   -- it goes on by one record: so does the index
-  pub extend_more : (ps : List ℕ) → count later ≤ length ps → length more ≡ 1 → (extend k later (build_into k xs ps) (count xs) ≡ Counted (count later)) × (extend_into k later (build_into k xs ps) (count xs) ≡ build_into k later ps)
+  pub extend_more : (ps : List ℕ) → count later ≤ length ps → length more ≡ 1 → (extend k later (build_into k xs ps) (count xs) ≡ Some (count later)) × (extend_into k later (build_into k xs ps) (count xs) ≡ build_into k later ps)
   extend_more ps room o =
       let n : ℕ = count xs in
       let c : count later ≡ n + 1 = (let z = count_later in omega arith) in
@@ -134,7 +133,7 @@ module _ (k : ℕ) (xs later : List ℕ) (more : List (List ℕ)) (e : record_fi
       let q : build_into k xs ps ≡ sets ps 0 (places_to later n) = b ∙ ap (sets ps 0) (sym (places-kept n (omega arith))) in
       let m : length (build_into k xs ps) ≡ length ps = ap length b ∙ length-sets ps 0 (places_to xs n) in
       let x = extend-done k later (build_into k xs ps) n f (sym c) (omega arith) in (
-        sym x.0 ∙ ap Counted (sym c),
+        sym x.0 ∙ ap Some (sym c),
         sym x.1
             ∙ places-turn later ps (build_into k xs ps) n (place later n) q refl
             ∙ ap (λ (i : ℕ). sets ps 0 (places_to later i)) (sym c)

@@ -1,15 +1,15 @@
 -- The list of places, and what a body of a record file is.
--- Read before: specs/Index.antt. Exports: `length-places`, `get_d_places`, `places-turn` (the list), `record_file_ok-…` (the test by its two parts,
+-- Read before: specs/Index.antt. Exports: `length-places`, `get_d_places`, `places-turn`, `places_done` (the list), `record_file_ok-…` (the test by its two parts,
 -- and what it tells), `Stands`, `stands`, `place_read` (a place is within the body, and small), `ByRow`, `record_file_ok_row`,
 -- `row_record_file_ok` (the test by the rule table's rows).
 use Prim.Native.Nat.{ℕ, suc, ◌+◌, ◌≤◌, ◌<◌, min}
 use mathlib.Core.Path.{◌≡◌, refl, sym, ap, ap₂, ◌∙◌}
 use mathlib.Core.Bool.{true, false, and-true}
-use mathlib.Core.List.{List, [], ◌∷◌, ◌++◌, Memᴰ}
+use mathlib.Core.List.{List, [], ◌∷◌, ◌++◌, append-nil, Memᴰ}
 use native.Mathlib.Omega.{arith}
 use native.Mathlib.Numerals.{add-one}
-use lib.ListN.{length, get_or, set}
-use lib.Seq.{sets}
+use lib.ListN.{length, get_or, set, take, drop, drop_of_length-le}
+use lib.Seq.{sets, sets-eq, length-take-le}
 use borrow.Author.Tests.{not-true, lt-leb, eqb-true}
 use Rattle.base.specs.Choice.{all_of}
 use Rattle.base.proofs.Cases.{all_of_facts}
@@ -20,10 +20,10 @@ use Rattle.store_records.proofs.Bodies.{body_ok-place, body_ok_facts}
 use Rattle.store_kinds.specs.Rules.{rules, rule_of, is_biometrics, kind_ok}
 use Rattle.store_kinds.specs.declared.rules.Key.TheVariants.{Kind}
 use Rattle.store_kinds.specs.declared.rules.Rule.{Rule}
-use Rattle.store_kinds.specs.declared.rules.Ruled.TheVariants.{Is}
 use Rattle.store_kinds.proofs.Table.{rule-listed, rule_key, rule_regular, listed_regular}
 use Rattle.store_kinds.proofs.ByKind.{OfRule, kind_ok-rule, kind_ok-ruled, place_small}
 use Rattle.store_index.specs.Index.{places_to, record_file_ok}
+use Rattle.std.specs.Prelude.{Some}
 
 -- ---- the list
 
@@ -52,6 +52,22 @@ places-turn xs l d i at e q =
     ∙ sets_snoc l 0 (places_to xs i) (place xs i)
     ∙ ap (λ (k : ℕ). set (sets l 0 (places_to xs i)) k (place xs i)) n)
 
+-- the first n places written, in the part of the list that is lent for them
+pub places_done : (xs l d : List ℕ) (n i : ℕ) → d ≡ sets (take n l) 0 (places_to xs i) → i ≡ n → n ≤ length l → d ++ drop n l ≡ sets l 0 (places_to xs n)
+places_done xs l d n i e q h =
+    let vs : List ℕ = places_to xs n in
+    let m : length vs ≡ n = length-places xs n in
+    let t : length (take n l) ≡ n = length-take-le n l h in
+    let z : 0 + length vs ≡ n = omega arith in
+    let none : drop (0 + length vs) (take n l) ≡ [] = drop_of_length-le (take n l) (omega arith) in
+    let part : d ≡ vs =
+    e
+    ∙ ap (λ (k : ℕ). sets (take n l) 0 (places_to xs k)) q
+    ∙ sets-eq vs (take n l) 0 (omega arith)
+    ∙ ap (λ (r : List ℕ). vs ++ r) none
+    ∙ append-nil vs in
+    ap (λ (r : List ℕ). r ++ drop n l) part ∙ sym (sets-eq vs l 0 (omega arith) ∙ ap (λ (k : ℕ). vs ++ drop k l) z)
+
 -- ---- a body of a record file
 
 module _ (k : ℕ) (xs : List ℕ) where
@@ -67,7 +83,7 @@ module _ (k : ℕ) (xs : List ℕ) where
   unfolding record_file_ok
   record_file_ok_facts e = let h = all_of_facts _ e in kind_ok-ruled k xs (not-true (is_biometrics k) h.0) h.1.0
 
-  pub record_file_ok-body_ok : (r : Rule) → rule_of (Kind k) ≡ Is r → record_file_ok k xs ≡ true → body_ok r.longest r.most xs ≡ true
+  pub record_file_ok-body_ok : (r : Rule) → rule_of (Kind k) ≡ Some r → record_file_ok k xs ≡ true → body_ok r.longest r.most xs ≡ true
   unfolding record_file_ok
   record_file_ok-body_ok r i e = sym (kind_ok-rule k xs r i) ∙ (all_of_facts _ e).1.0
 
@@ -113,6 +129,6 @@ module _ (k : ℕ) (xs : List ℕ) where
   row_record_file_ok h =
       let r = h.0 in
       let g = listed_regular r h.1 in
-      let i : rule_of (Kind k) ≡ Is r = ap (λ (j : ℕ). rule_of (Kind j)) (sym h.2) ∙ g.by_kind in
+      let i : rule_of (Kind k) ≡ Some r = ap (λ (j : ℕ). rule_of (Kind j)) (sym h.2) ∙ g.by_kind in
       let b : is_biometrics k ≡ false = simp (lt-leb 0x0401 k (omega (arith, g.high, g.last, h.2))) in
       sym (record_file_ok-kind k xs b) ∙ kind_ok-rule k xs r i ∙ h.3

@@ -14,19 +14,18 @@ use Rattle.store_kinds.specs.Rules.{rule_of, is_biometrics, kind_ok_by, kind_ok}
 use Rattle.store_kinds.specs.declared.rules.Key.{Key}
 use Rattle.store_kinds.specs.declared.rules.Key.TheVariants.{Kind}
 use Rattle.store_kinds.specs.declared.rules.Rule.{Rule}
-use Rattle.store_kinds.specs.declared.rules.Ruled.{Ruled}
-use Rattle.store_kinds.specs.declared.rules.Ruled.TheVariants.{Is, Nothing}
 use Rattle.store_kinds.proofs.Table.{rule_regular}
+use Rattle.std.specs.Prelude.{Option, Some, None}
 
 module _ (k : ℕ) (xs : List ℕ) where
-  pub kind_ok-rule : (r : Rule) → rule_of (Kind k) ≡ Is r → kind_ok k xs ≡ body_ok r.longest r.most xs
+  pub kind_ok-rule : (r : Rule) → rule_of (Kind k) ≡ Some r → kind_ok k xs ≡ body_ok r.longest r.most xs
   unfolding kind_ok
-  kind_ok-rule r e = ap (λ (f : Ruled). kind_ok_by f k xs) e
+  kind_ok-rule r e = ap (λ (f : Option Rule). kind_ok_by f k xs) e
 
-  module _ (e : rule_of (Kind k) ≡ Nothing) where
+  module _ (e : rule_of (Kind k) ≡ None) where
     none : kind_ok k xs ≡ (is_biometrics k && bio_ok xs)
     unfolding kind_ok
-    none = ap (λ (f : Ruled). kind_ok_by f k xs) e
+    none = ap (λ (f : Option Rule). kind_ok_by f k xs) e
 
     pub kind_ok-refused : is_biometrics k ≡ false → kind_ok k xs ≡ false
     kind_ok-refused f = none ∙ simp f
@@ -37,15 +36,15 @@ module _ (k : ℕ) (xs : List ℕ) where
   -- a body that is right for a kind, where that is no biometrics file's, is right for the rule of its kind
   pub record OfRule : Type 0 where
     pub rule : Rule
-    pub ruled : rule_of (Kind k) ≡ Is rule
+    pub ruled : rule_of (Kind k) ≡ Some rule
     pub ok : body_ok rule.longest rule.most xs ≡ true
 
   pub kind_ok-ruled : is_biometrics k ≡ false → kind_ok k xs ≡ true → OfRule
   kind_ok-ruled b e = go (rule_of (Kind k)) refl
     where
-      go : (f : Ruled) → rule_of (Kind k) ≡ f → OfRule
-      go Nothing n = false-true (sym (kind_ok-refused n b) ∙ e)
-      go (Is r) i = record { rule = r; ruled = i; ok = sym (kind_ok-rule r i) ∙ e }
+      go : (f : Option Rule) → rule_of (Kind k) ≡ f → OfRule
+      go None n = false-true (sym (kind_ok-refused n b) ∙ e)
+      go (Some r) i = record { rule = r; ruled = i; ok = sym (kind_ok-rule r i) ∙ e }
 
 -- ---- where records stand
 
@@ -58,7 +57,7 @@ place_bound L xs (suc n) l e =
     let k = (ok_at_facts L xs (place xs n) (and_right (ok_to L xs n) (ok_at L xs (place xs n)) e)).short in
     omega arith
 
-pub place_small : (key : Key) (r : Rule) (xs : List ℕ) (n : ℕ) → rule_of key ≡ Is r → body_ok r.longest r.most xs ≡ true → n ≤ count xs → place xs n < 262144
+pub place_small : (key : Key) (r : Rule) (xs : List ℕ) (n : ℕ) → rule_of key ≡ Some r → body_ok r.longest r.most xs ≡ true → n ≤ count xs → place xs n < 262144
 place_small key r xs n e b h =
     let f = body_ok_facts r.longest r.most xs b in
     let g = rule_regular key r e in

@@ -1,37 +1,34 @@
 -- An application that is present, by any test `has` of which kinds are there: a loop over the rule table, and what is there then. An image
 -- and a list of rooms are two such tests.
--- Read before: specs/Rules.antt. Exports: `present_by-low`, `present_by-high`, `Left` with its laws (the loop), `present_by-has`,
+-- Read before: specs/Rules.antt. Exports: `Left` with its laws (the loop), `present_by-has`,
 -- `present_by-same`.
-use Prim.Native.Nat.{ℕ, ◌+◌, ◌≤◌, ◌<◌}
+use Prim.Native.Nat.{ℕ, zero, suc, ◌+◌, ◌≤◌, ◌<◌}
 use mathlib.Core.Path.{◌≡◌, refl, sym, ap, ◌∙◌}
-use mathlib.Core.Bool.{Bool, true, false, ◌&&◌, and-true, and-false}
+use mathlib.Core.Bool.{Bool, true, false, ◌&&◌}
 use mathlib.Core.List.{List, [], ◌∷◌}
 use lib.ListN.{get_or, drop}
-use borrow.Author.Tests.{lt-leb, le-leb, eq-eqb}
-use Rattle.base.specs.Choice.{all_of}
+use lib.Dec.{lit<}
+use borrow.Author.Tests.{eq-eqb, ne_eqb}
 use Rattle.base.proofs.Cases.{all_of_facts}
 use Rattle.store_kinds.specs.Rules.{rules, rule_of, all_rules, there, present_by}
 use Rattle.store_kinds.specs.declared.rules.Key.{Key}
 use Rattle.store_kinds.specs.declared.rules.Rule.{Rule}
-use Rattle.store_kinds.specs.declared.rules.Ruled.TheVariants.{Is}
 use Rattle.store_kinds.proofs.Table.{no_rule, rules_cons, rules_end, rule-listed, all_rules-listed}
+use Rattle.std.specs.Prelude.{Some}
 
 module _ (has : ℕ → Bool) (a : ℕ) where
-  pub present_by-low : a < 1 → present_by has a ≡ false
-  unfolding present_by all_of
-  present_by-low h = simp (lt-leb _ _ h)
+  -- a rule of another application, and one of this
+  pub there-other : (r : Rule) → (r.application ≡ a → ⊥) → there has a r ≡ true
+  unfolding there
+  there-other r h = simp (ne_eqb _ _ h)
 
-  pub present_by-high : 3 < a → present_by has a ≡ false
-  unfolding present_by all_of
-  present_by-high h = simp (lt-leb _ _ h, and-false)
+  pub there-own : (r : Rule) (b : Bool) → r.application ≡ a → b ≡ has r.kind → there has a r ≡ b
+  unfolding there
+  there-own r b e q = simp (eq-eqb _ _ e) (sym q)
 
   -- what is left of the table answers for the whole
   abbrev pub Left : ℕ → Type 0
   Left i = present_by has a ≡ all_rules (there has a) (drop i rules)
-
-  pub left-start : 1 ≤ a → a ≤ 3 → Left 0
-  unfolding present_by all_of
-  left-start h i = simp (le-leb _ _ h, le-leb _ _ i, and-true)
 
   module _ (i : ℕ) (q : Left i) where
     step : i < 6 → (t : Bool) → there has a (get_or rules i no_rule) ≡ t → present_by has a ≡ (t && all_rules (there has a) (drop (i + 1) rules))
@@ -49,8 +46,19 @@ module _ (has : ℕ → Bool) (a : ℕ) where
     unfolding all_rules
     left_end h = sym (q ∙ ap (all_rules (there has a)) (rules_end i h))
 
+-- a call with the kind of a rule can be made
+pub kind_callable : (i : ℕ) → (get_or rules i no_rule).kind < 18446744073709551616
+unfolding rules
+kind_callable zero = lit< tt
+kind_callable (suc zero) = lit< tt
+kind_callable (suc (suc zero)) = lit< tt
+kind_callable (suc (suc (suc zero))) = lit< tt
+kind_callable (suc (suc (suc (suc zero)))) = lit< tt
+kind_callable (suc (suc (suc (suc (suc zero))))) = lit< tt
+kind_callable (suc (suc (suc (suc (suc (suc i)))))) = lit< tt
+
 -- the record files of an application that is present are there
-pub present_by-has : (has : ℕ → Bool) (key : Key) (r : Rule) → rule_of key ≡ Is r → present_by has r.application ≡ true → has r.kind ≡ true
+pub present_by-has : (has : ℕ → Bool) (key : Key) (r : Rule) → rule_of key ≡ Some r → present_by has r.application ≡ true → has r.kind ≡ true
 unfolding present_by rule_of there
 present_by-has has key r e p =
     let t : there has r.application r ≡ true = all_rules-listed (there has r.application) rules r (all_of_facts _ p).1.1.0 (rule-listed key r e) in

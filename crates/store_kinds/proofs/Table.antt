@@ -20,8 +20,7 @@ use Rattle.store_kinds.specs.Rules.{rule, rules, has_key, first_rule, rule_of, a
 use Rattle.store_kinds.specs.declared.rules.Key.{Key}
 use Rattle.store_kinds.specs.declared.rules.Key.TheVariants.{Kind, Id, Short}
 use Rattle.store_kinds.specs.declared.rules.Rule.{Rule}
-use Rattle.store_kinds.specs.declared.rules.Ruled.{Ruled}
-use Rattle.store_kinds.specs.declared.rules.Ruled.TheVariants.{Is, Nothing}
+use Rattle.std.specs.Prelude.{Option, Some, None}
 
 -- ---- a look-up: what is left of the table answers for the whole
 
@@ -48,38 +47,38 @@ module _ (key : Key) where
 
   module _ (i : ℕ) (q : Looking i) where
     step : i < 6 → (t : Bool) → has_key key (get_or rules i no_rule) ≡ t
-        → rule_of key ≡ if_else t (Is (get_or rules i no_rule)) (first_rule key (drop (i + 1) rules))
+        → rule_of key ≡ if_else t (Some (get_or rules i no_rule)) (first_rule key (drop (i + 1) rules))
     unfolding first_rule
     step h t e =
-        q ∙ ap (first_rule key) (rules_cons i h) ∙ ap (λ (b : Bool). if_else b (Is (get_or rules i no_rule)) (first_rule key (drop (i + 1) rules))) e
+        q ∙ ap (first_rule key) (rules_cons i h) ∙ ap (λ (b : Bool). if_else b (Some (get_or rules i no_rule)) (first_rule key (drop (i + 1) rules))) e
 
-    pub looking_hit : i < 6 → has_key key (get_or rules i no_rule) ≡ true → Is (get_or rules i no_rule) ≡ rule_of key
+    pub looking_hit : i < 6 → has_key key (get_or rules i no_rule) ≡ true → Some (get_or rules i no_rule) ≡ rule_of key
     looking_hit h e = sym (step h true e)
 
     pub looking_next : i < 6 → has_key key (get_or rules i no_rule) ≡ false → Looking (i + 1)
     looking_next h e = step h false e
 
-    pub looking_end : 6 ≤ i → Nothing ≡ rule_of key
+    pub looking_end : 6 ≤ i → None ≡ rule_of key
     unfolding first_rule
     looking_end h = sym (q ∙ ap (first_rule key) (rules_end i h))
 
 -- ---- what holds of every rule of the table
 
 -- what a key finds in a table stands there, and has the key
-first_rule-found : (key : Key) (rs : List Rule) (r : Rule) → first_rule key rs ≡ Is r → Memᴰ r rs × (has_key key r ≡ true)
+first_rule-found : (key : Key) (rs : List Rule) (r : Rule) → first_rule key rs ≡ Some r → Memᴰ r rs × (has_key key r ≡ true)
 unfolding first_rule
 first_rule-found key [] r e = absurd (let z : ◌≡◌ {A = ℕ} 0 1 = cc in omega arith)
 first_rule-found key (q ∷ rs) r e =
     by_cases (has_key key q)
-    (λ h. let f : Is q ≡ Is r = simp h at e in
+    (λ h. let f : Some q ≡ Some r = simp h at e in
     let g : r ≡ q = cc in (Memᴰ.head g, ap (has_key key) g ∙ h))
     (λ h. let f = first_rule-found key rs r (simp h at e) in (Memᴰ.tail f.0, f.1))
 
-pub rule-listed : (key : Key) (r : Rule) → rule_of key ≡ Is r → Memᴰ r rules
+pub rule-listed : (key : Key) (r : Rule) → rule_of key ≡ Some r → Memᴰ r rules
 unfolding rule_of
 rule-listed key r e = (first_rule-found key rules r e).0
 
-pub rule_key : (key : Key) (r : Rule) → rule_of key ≡ Is r → has_key key r ≡ true
+pub rule_key : (key : Key) (r : Rule) → rule_of key ≡ Some r → has_key key r ≡ true
 unfolding rule_of
 rule_key key r e = (first_rule-found key rules r e).1
 
@@ -90,9 +89,9 @@ all_rules-listed p [] r a m = absurd (Memᴰ.not-nil m)
 all_rules-listed p (q ∷ rs) r a m =
     ⊎_elim (λ e. ap p e ∙ and_left (p q) (all_rules p rs) a) (λ t. all_rules-listed p rs r (and_right (p q) (all_rules p rs) a) t) (Memᴰ.cases_cons m)
 
-is_rule : Rule → Ruled → Bool
-is_rule r Nothing = false
-is_rule r (Is q) =
+is_rule : Rule → Option Rule → Bool
+is_rule r None = false
+is_rule r (Some q) =
     all_of
     (eqb q.kind r.kind
     ∷ eqb q.application r.application
@@ -127,16 +126,16 @@ pub record Regular (r : Rule) : Type 0 where
   pub first : 1 ≤ r.application
   pub last : r.application ≤ 3
   pub high : r.kind / 256 ≡ r.application
-  pub by_kind : rule_of (Kind r.kind) ≡ Is r
-  pub by_file_id : rule_of (Id r.application r.id) ≡ Is r
-  pub by_short_id : rule_of (Short r.application r.short) ≡ Is r
+  pub by_kind : rule_of (Kind r.kind) ≡ Some r
+  pub by_file_id : rule_of (Id r.application r.id) ≡ Some r
+  pub by_short_id : rule_of (Short r.application r.short) ≡ Some r
   pub id_small : r.id ≤ 0xFFFF
   pub low_bits : 1 ≤ r.short % 8
 
-is-rule : (r : Rule) (found : Ruled) → is_rule r found ≡ true → found ≡ Is r
+is-rule : (r : Rule) (found : Option Rule) → is_rule r found ≡ true → found ≡ Some r
 unfolding is_rule
-is-rule r Nothing e = absurd (let z : ◌≡◌ {A = ℕ} 0 1 = cc in omega arith)
-is-rule r (Is q) e =
+is-rule r None e = absurd (let z : ◌≡◌ {A = ℕ} 0 1 = cc in omega arith)
+is-rule r (Some q) e =
     let h = all_of_facts _ e in
     let k = eqb-true q.kind r.kind h.0 in
     let a = eqb-true q.application r.application h.1.0 in
@@ -145,7 +144,7 @@ is-rule r (Is q) e =
     let l = eqb-true q.longest r.longest h.1.1.1.1.0 in
     let m = eqb-true q.most r.most h.1.1.1.1.1.0 in
     let z : rule q.kind q.application q.id q.short q.longest q.most ≡ rule r.kind r.application r.id r.short r.longest r.most = rw (k, a, i, s, l, m) in
-    ap Is z
+    ap Some z
 
 -- whatever stands in the table is regular: one test, computed over the whole of it
 pub listed_regular : (r : Rule) → Memᴰ r rules → Regular r
@@ -171,5 +170,5 @@ listed_regular r m =
     whole = unfold all_rules regular is_rule rule_of first_rule rules all_of in refl
 
 -- and so is whatever a key finds
-pub rule_regular : (key : Key) (r : Rule) → rule_of key ≡ Is r → Regular r
+pub rule_regular : (key : Key) (r : Rule) → rule_of key ≡ Some r → Regular r
 rule_regular key r e = listed_regular r (rule-listed key r e)

@@ -3,12 +3,11 @@
 -- body can take a write), `update-…`, `updated-…`, `activate-…`, `activated-…` (what is answered, and the body afterwards).
 use Prim.Native.Nat.{ℕ, ◌+◌, ◌-◌, ◌/◌, ◌%◌, ◌≤◌, ◌<◌, max}
 use mathlib.Core.Path.{◌≡◌, refl, sym, ap, ap₂, ◌∙◌}
-use mathlib.Core.Bool.{true, false, and-true, and-false}
+use mathlib.Core.Bool.{true, false}
 use mathlib.Core.List.{List, [], ◌∷◌, ◌++◌, append_assoc}
 use native.Mathlib.Omega.{arith}
 use lib.ListN.{length, take, drop, set, length-set, length-drop, length-append}
 use lib.Seq.{sets, length-sets, sets-eq, get_or-set_same, get_or-set_other, drop-set-lt, take-append-add, take-take, length-take-le}
-use lib.Dec.{leb}
 use borrow.Author.Tests.{le-leb, lt-leb, leb-true}
 use Rattle.base.specs.Choice.{all_of}
 use Rattle.base.specs.Bytes.{splice, put}
@@ -42,18 +41,6 @@ module _ (xs : List ℕ) where
   unfolding bio_ok all_of
   bio_ok-short h = simp (lt-leb _ _ h)
 
-  pub bio_ok-state : 1 < state xs → bio_ok xs ≡ false
-  unfolding bio_ok all_of
-  bio_ok-state h = simp (lt-leb _ _ h, and-false)
-
-  pub bio_ok_large : largest_room < room xs → bio_ok xs ≡ false
-  unfolding bio_ok all_of
-  bio_ok_large h = simp (lt-leb _ _ h, and-false)
-
-  pub bio_ok_rest : 5 ≤ length xs → state xs ≤ 1 → room xs ≤ largest_room → bio_ok xs ≡ leb (written xs) (room xs)
-  unfolding bio_ok all_of
-  bio_ok_rest h i j = simp (le-leb _ _ h, le-leb _ _ i, le-leb _ _ j, and-true)
-
 -- ---- whether it can take a write
 
 module _ (xs : List ℕ) (off n : ℕ) where
@@ -66,6 +53,10 @@ module _ (xs : List ℕ) (off n : ℕ) where
   unfolding updatable
   updatable_facts e = let h = all_of_facts _ e in record { body = bio_ok_facts xs h.0; behind = leb-true _ _ h.1.0; fits = leb-true _ _ h.1.1.0 }
 
+  -- so what is written, before and after, ends within the largest room
+  pub updatable_small : updatable xs off n ≡ true → (written xs ≤ largest_room) × (off + n ≤ largest_room)
+  updatable_small e = let f = updatable_facts e in (omega (arith, f.body.small, f.body.within), omega (arith, f.body.small, f.fits))
+
   pub updatable_accepted : bio_ok xs ≡ true → off ≤ written xs → off + n ≤ room xs → updatable xs off n ≡ true
   unfolding updatable
   updatable_accepted e h i = all_of_accepted _ (e, (le-leb _ _ h, (le-leb _ _ i, tt)))
@@ -73,14 +64,6 @@ module _ (xs : List ℕ) (off n : ℕ) where
   pub updatable-refused : bio_ok xs ≡ false → updatable xs off n ≡ false
   unfolding updatable all_of
   updatable-refused e = simp e
-
-  pub updatable_gap : written xs < off → updatable xs off n ≡ false
-  unfolding updatable all_of
-  updatable_gap h = simp (lt-leb _ _ h, and-false)
-
-  pub updatable_full : room xs < off + n → updatable xs off n ≡ false
-  unfolding updatable all_of
-  updatable_full h = simp (lt-leb _ _ h, and-false)
 
 -- what a write answers and leaves: where the body can take it, and where not
 pub update_accepted : (xs : List ℕ) (off : ℕ) (d last : List ℕ) → updatable xs off (length d) ≡ true → last ≡ updated xs off d

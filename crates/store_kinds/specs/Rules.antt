@@ -1,13 +1,11 @@
 -- The rule table of the six record files, the kinds of all files, and what a section's body must be by its kind.
-use Rattle.std.specs.Prelude.{ℕ, ◌+◌, Bool, true, not, ◌&&◌, ◌||◌, List, [], ◌∷◌, leb, ltb, eqb}
+use Rattle.std.specs.Prelude.{ℕ, ◌≡◌, ◌<◌, ◌+◌, ◌^◌, Bool, true, not, ◌&&◌, ◌||◌, List, [], ◌∷◌, leb, ltb, eqb, Option, Some, None}
 use Rattle.base.specs.Choice.{if_else, all_of}
 use Rattle.store_records.specs.Body.{body_ok}
 use Rattle.store_kinds.specs.Biometrics.{bio_ok}
 use Rattle.store_kinds.specs.declared.rules.Key.{Key}
 use Rattle.store_kinds.specs.declared.rules.Key.TheVariants.{Kind, Id, Short}
 use Rattle.store_kinds.specs.declared.rules.Rule.{Rule}
-use Rattle.store_kinds.specs.declared.rules.Ruled.{Ruled}
-use Rattle.store_kinds.specs.declared.rules.Ruled.TheVariants.{Is, Nothing}
 
 -- the applications' numbers [K3]
 abbrev pub travel : ℕ
@@ -43,12 +41,12 @@ has_key (Id a i) r = eqb r.application a && eqb r.id i
 has_key (Short a s) r = eqb r.application a && eqb r.short s
 
 -- the first rule of a table that a key finds [K4]
-unfoldable pub first_rule : Key → List Rule → Ruled
-first_rule key [] = Nothing
-first_rule key (r ∷ rs) = if_else (has_key key r) (Is r) (first_rule key rs)
+unfoldable pub first_rule : Key → List Rule → Option Rule
+first_rule key [] = None
+first_rule key (r ∷ rs) = if_else (has_key key r) (Some r) (first_rule key rs)
 
 -- [K4]
-unfoldable pub rule_of : Key → Ruled
+unfoldable pub rule_of : Key → Option Rule
 rule_of key = first_rule key rules
 
 -- each rule of a table passes a test [I7]
@@ -80,12 +78,16 @@ there has a r = not (eqb r.application a) || has r.kind
 unfoldable pub present_by : (ℕ → Bool) → ℕ → Bool
 present_by has a = all_of (leb travel a ∷ leb a biometrics ∷ all_rules (there has a) rules ∷ [])
 
+-- what a closure may answer (`post`, its calls) is what a test answers, at each kind that a call can be made with [I7]
+abbrev pub Asks : (ℕ → Bool → Type 0) → (ℕ → Bool) → Type 0
+Asks post test = (k : ℕ) (b : Bool) → k < 2 ^ 64 → post k b → b ≡ test k
+
 -- ---- a body by its kind
 
 -- a body by the rule of its kind, or where no rule has the kind, as a biometrics file's [I5]
-abbrev pub kind_ok_by : Ruled → ℕ → List ℕ → Bool
-kind_ok_by (Is r) k xs = body_ok r.longest r.most xs
-kind_ok_by Nothing k xs = is_biometrics k && bio_ok xs
+abbrev pub kind_ok_by : Option Rule → ℕ → List ℕ → Bool
+kind_ok_by (Some r) k xs = body_ok r.longest r.most xs
+kind_ok_by None k xs = is_biometrics k && bio_ok xs
 
 -- the kind is known, and the body is one of its kind [I5]
 unfoldable pub kind_ok : ℕ → List ℕ → Bool

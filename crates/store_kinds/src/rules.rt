@@ -1,6 +1,6 @@
 // The rule table of the six record files, the kinds of all files, and what a body must be by its kind.
-ghost use Rattle.std.specs.Prelude.{◌≡◌};
-ghost use Rattle.store_kinds.specs.Rules.{has_key, rule_of, is_biometrics, biometrics_kind, application_of, kind_ok};
+ghost use Rattle.std.specs.Prelude.{◌≡◌, ℕ, Bool};
+ghost use Rattle.store_kinds.specs.Rules.{has_key, rule_of, is_biometrics, biometrics_kind, application_of, there, present_by, Asks, kind_ok};
 
 use crate::biometrics;
 use store_records::body;
@@ -19,12 +19,6 @@ pub struct Rule {
     pub short: usize,
     pub longest: usize,
     pub most: usize,
-}
-
-#[derive(Clone, Copy)]
-pub enum Ruled {
-    Is(Rule),
-    Nothing,
 }
 
 // EntryRecords, ExitRecords and travel certificates; VisaRecords and visa certificates; biometrics certificates.
@@ -92,78 +86,85 @@ fn has_key(key: Key, r: Rule) -> bool
 {
     match key {
         Key::Kind(kind) => r.kind == kind,
-        Key::Id(application, id) => {
-            if r.application != application {
-                return false;
-            }
-            r.id == id
-        }
-        Key::Short(application, short) => {
-            if r.application != application {
-                return false;
-            }
-            r.short == short
-        }
+        Key::Id(application, id) => r.application == application && r.id == id,
+        Key::Short(application, short) => r.application == application && r.short == short,
     }
 }
 
 // The rule that a key finds. The table is laid out once, before its rows are tried.
-pub fn find_rule(key: Key) -> Ruled
+pub fn find_rule(key: Key) -> Option<Rule>
     ensures { result ≡ rule_of key }
 {
-    let rules = RULES;
-    let mut i = 0;
-    while i < rules.len() {
-        let r = rules[i];
-        if has_key(key, r) {
-            return Ruled::Is(r);
+    for rule in &RULES {
+        if has_key(key, *rule) {
+            return Some(*rule);
         }
-        i += 1;
     }
-    Ruled::Nothing
+    None
 }
 
 // Whether a kind is that of a biometrics file.
+#[tactic(auto, unfolding(crate::specs::Rules::is_biometrics, base::specs::Choice::all_of))]
 pub fn is_biometrics(kind: usize) -> bool
     ensures { result ≡ is_biometrics kind }
 {
-    if kind < 0x0401 {
-        return false;
-    }
-    kind <= 0x0440
+    (0x0401..=0x0440).contains(&kind)
 }
 
 // The kind of the section that holds Biometrics n.
 pub fn biometrics_kind(n: u8) -> usize
     ensures { result ≡ biometrics_kind n }
 {
-    0x0400 + (n as usize)
+    0x0400 + usize::from(n)
 }
 
 // The application whose section a kind is.
+#[tactic(auto, unfolding(crate::specs::Rules::application_of))]
 pub fn application_of(kind: usize) -> usize
     ensures { result ≡ application_of kind }
 {
     if kind < 0x0200 {
-        return TRAVEL;
+        TRAVEL
+    } else if kind < 0x0300 {
+        VISA
+    } else {
+        BIOMETRICS
     }
-    if kind < 0x0300 {
-        return VISA;
+}
+
+// Whether the record file of a rule is there, where the rule is one of the application's. `has` says which kinds are there.
+#[tactic(auto, unfolding(crate::specs::Rules::there))]
+fn there<F: Fn(usize) -> bool>(has: &F, application: usize, r: Rule) -> bool
+    requires { F.IsAlwaysCallable has.now }
+    ensures { (test : ℕ → Bool) → Asks (F.post has.now) test → result ≡ there test application r }
+{
+    r.application != application || has(r.kind)
+}
+
+// Whether an application is present, which it is when all its record files are there. `has` says which kinds are there.
+#[tactic(auto, unfolding(crate::specs::Rules::rules, crate::specs::Rules::present_by, base::specs::Choice::all_of))]
+pub fn present_by<F: Fn(usize) -> bool>(has: F, application: usize) -> bool
+    requires { F.IsAlwaysCallable has }
+    ensures { (test : ℕ → Bool) → Asks (F.post has) test → result ≡ present_by test application }
+{
+    if !(TRAVEL..=BIOMETRICS).contains(&application) {
+        return false;
     }
-    BIOMETRICS
+    for rule in &RULES {
+        if !there(&has, application, *rule) {
+            return false;
+        }
+    }
+    true
 }
 
 // Whether a kind is known and a body is one of that kind.
+#[tactic(auto, unfolding(crate::specs::Rules::kind_ok))]
 pub fn kind_ok(kind: usize, body: &[u8]) -> bool
     ensures { result ≡ kind_ok kind body.now }
 {
     match find_rule(Key::Kind(kind)) {
-        Ruled::Is(r) => body::well_formed(body, r.longest, r.most),
-        Ruled::Nothing => {
-            if !is_biometrics(kind) {
-                return false;
-            }
-            biometrics::well_formed(body)
-        }
+        Some(r) => body::well_formed(body, r.longest, r.most),
+        None => is_biometrics(kind) && biometrics::well_formed(body),
     }
 }

@@ -1,6 +1,6 @@
 -- Contents and their rooms: the first rows fit, and so do all.
--- Read before: specs/Moving.antt. Exports: `roomy-…` (the loop, and each row where all fit), `whole-fits`, `busy_fits` (one file).
-use Prim.Native.Nat.{ℕ, zero, suc, ◌+◌, ◌≤◌, ◌<◌, min}
+-- Read before: specs/Moving.antt. Exports: `roomy-…` (the loop, and each row where all fit).
+use Prim.Native.Nat.{ℕ, zero, suc, ◌+◌, ◌<◌, min}
 use mathlib.Core.Path.{◌≡◌, refl, sym, ap, ap₂, ◌∙◌}
 use mathlib.Core.Bool.{true, false, and-false}
 use mathlib.Core.List.{List}
@@ -10,8 +10,8 @@ use native.Mathlib.Numerals.{add-one}
 use native.Mathlib.Nat.{eq-or-lt_of_le}
 use lib.ListN.{length, length-take}
 use lib.Dec.{leb}
-use borrow.Author.Tests.{le-leb, leb-true}
-use Rattle.base.proofs.Cases.{by_cases, false-true, leb-same}
+use borrow.Author.Tests.{leb-true}
+use Rattle.base.proofs.Cases.{by_cases, false-true}
 use Rattle.store_image.specs.Image.{body}
 use Rattle.store_move_plan.specs.Rooms.{rows, row_room, row_kind}
 use Rattle.store_move_plan.proofs.Search.{Fits}
@@ -62,10 +62,3 @@ module _ (old : List ℕ) (k room : ℕ) (b : List ℕ) (eb : b ≡ body old k) 
   part_length : length (content old k) ≡ min (content_length k b) (length b)
   unfolding content
   part_length = rw eb (length-take (content_length k (body old k)) (body old k))
-
-  pub whole-fits : length b ≤ room → true ≡ leb (length (content old k)) room
-  whole-fits h = sym (le-leb (length (content old k)) room (omega (arith, part_length)))
-
-  pub busy_fits : room < length b → (n : ℕ) → n ≡ content_length k b → leb n room ≡ leb (length (content old k)) room
-  busy_fits h n e =
-      leb-same n room (length (content old k)) room (λ g. omega (arith, part_length)) (λ g. omega (arith, part_length))

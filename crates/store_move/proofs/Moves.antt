@@ -12,24 +12,22 @@ use borrow.Author.Tests.{le-leb, lt-leb, leb-true}
 use Rattle.base.proofs.Cases.{by_cases, all_of_facts}
 use Rattle.store_image.specs.Image.{well_formed}
 use Rattle.store_move_plan.specs.Rooms.{no_content, blank, lays, plan}
-use Rattle.store_move_plan.specs.declared.Laid.TheVariants.{Total, Unfit}
 use Rattle.store_move_plan.proofs.Search.{same_length}
 use Rattle.store_move_plan.proofs.Blank.{none-fits}
 use Rattle.store_move.specs.Moving.{content, moved, lists, roomy, move_refusal_number, refuse_unless, unless_unfit, target_after, move_card, move_card_into, Numbered}
 use Rattle.store_move.specs.declared.MoveRefusal.{MoveRefusal}
 use Rattle.store_move.specs.declared.MoveRefusal.TheVariants.{BadImage, BadList, MissingKind, SmallRoom, ShortTarget}
-use Rattle.store_move.specs.declared.Moved.{Moved}
-use Rattle.store_move.specs.declared.Moved.TheVariants.{Image, Refused}
 use Rattle.store_move.proofs.Fitting.{roomy-at}
+use Rattle.std.specs.Prelude.{Some, None, Result, Ok, Err}
 
 -- ---- the list's plan
 
-pub plan_fit : (list : List ℕ) (n : ℕ) → plan list ≡ Total n → n ≡ length (blank list)
+pub plan_fit : (list : List ℕ) (n : ℕ) → plan list ≡ Some n → n ≡ length (blank list)
 unfolding plan
 plan_fit list n e =
     by_cases (lays list)
-    (λ y. let z : Total (length (blank list)) ≡ Total n = simp y at e in cc)
-    (λ f. absurd (let z : Unfit ≡ Total n = simp f at e in let x : ◌≡◌ {A = ℕ} 0 1 = cc in omega arith))
+    (λ y. let z : Some (length (blank list)) ≡ Some n = simp y at e in cc)
+    (λ f. absurd (let z : None ≡ Some n = simp f at e in let x : ◌≡◌ {A = ℕ} 0 1 = cc in omega arith))
 
 -- contents that fit leave the image as long as the list says
 pub moved_length : (old list : List ℕ) → roomy old list ≡ true → length (moved old list) ≡ length (blank list)
@@ -40,40 +38,28 @@ moved_length old list r = same_length list no_content (content old) (none-fits l
 
 module _ (old list t : List ℕ) where
   -- what the contract says of the answer r and of the target t' afterwards
-  abbrev pub Says : Moved → List ℕ → Type 0
+  abbrev pub Says : Result ℕ MoveRefusal → List ℕ → Type 0
   Says r t' = (r ≡ move_card old list (length t)) × (t' ≡ move_card_into old list t)
 
-  says : (r : Moved) → move_card old list (length t) ≡ r → Says r (target_after r (moved old list) t)
+  says : (r : Result ℕ MoveRefusal) → move_card old list (length t) ≡ r → Says r (target_after r (moved old list) t)
   unfolding move_card_into
-  says r e = (sym e, ap (λ (x : Moved). target_after x (moved old list) t) (sym e))
-
-  pub move_card_bad_image : well_formed old ≡ false → Says (Refused BadImage) t
-  move_card_bad_image e = says (Refused BadImage) (unfold move_card in simp e)
+  says r e = (sym e, ap (λ (x : Result ℕ MoveRefusal). target_after x (moved old list) t) (sym e))
 
   module _ (o : well_formed old ≡ true) where
-    pub move_card_bad_list : plan list ≡ Unfit → Says (Refused BadList) t
-    move_card_bad_list e = says (Refused BadList) (unfold move_card in simp (o, e))
-
-    module _ (n : ℕ) (p : plan list ≡ Total n) where
-      pub move_card_missing_kind : lists old list ≡ false → Says (Refused MissingKind) t
-      move_card_missing_kind e = says (Refused MissingKind) (unfold move_card in simp (o, p, e))
-
+    module _ (n : ℕ) (p : plan list ≡ Some n) where
       module _ (a : lists old list ≡ true) where
-        pub move_card_small_room : roomy old list ≡ false → Says (Refused SmallRoom) t
-        move_card_small_room e = says (Refused SmallRoom) (unfold move_card in simp (o, p, a, e))
-
         module _ (r : roomy old list ≡ true) where
           pub moved-length-plan : length (moved old list) ≡ n
           moved-length-plan = moved_length old list r ∙ sym (plan_fit list n p)
 
-          pub move_card_short_target : length t < n → Says (Refused ShortTarget) t
+          pub move_card_short_target : length t < n → Says (Err ShortTarget) t
           move_card_short_target h =
-              says (Refused ShortTarget) (unfold move_card in simp (o, p, a, r, lt-leb (length (moved old list)) (length t) (omega (arith, moved-length-plan))))
+              says (Err ShortTarget) (unfold move_card in simp (o, p, a, r, lt-leb (length (moved old list)) (length t) (omega (arith, moved-length-plan))))
 
-          pub move_card_accepted : n ≤ length t → (t' : List ℕ) → t' ≡ moved old list ++ drop (length (moved old list)) t → Says (Image n) t'
+          pub move_card_accepted : n ≤ length t → (t' : List ℕ) → t' ≡ moved old list ++ drop (length (moved old list)) t → Says (Ok n) t'
           move_card_accepted h t' e =
-              let s = says (Image (length (moved old list))) (unfold move_card in simp (o, p, a, r, le-leb (length (moved old list)) (length t) (omega (arith, moved-length-plan)))) in
-              (ap Image (sym moved-length-plan) ∙ s.0, e ∙ s.1)
+              let s = says (Ok (length (moved old list))) (unfold move_card in simp (o, p, a, r, le-leb (length (moved old list)) (length t) (omega (arith, moved-length-plan)))) in
+              (ap Ok (sym moved-length-plan) ∙ s.0, e ∙ s.1)
 
 -- ---- the numbers that it answers
 
@@ -92,11 +78,11 @@ move_refusal_number-some MissingKind = omega arith
 move_refusal_number-some SmallRoom = omega arith
 move_refusal_number-some ShortTarget = omega arith
 
-unless_ind : (P : Moved → Type 0) (t : Bool) (w : MoveRefusal) (m : Moved) → P (Refused w) → (t ≡ true → P m) → P (refuse_unless t w m)
+unless_ind : (P : Result ℕ MoveRefusal → Type 0) (t : Bool) (w : MoveRefusal) (m : Result ℕ MoveRefusal) → P (Err w) → (t ≡ true → P m) → P (refuse_unless t w m)
 unless_ind P true w m r i = i refl
 unless_ind P false w m r i = r
 
-unfit_ind : (P : Moved → Type 0) (list : List ℕ) (m : Moved) → P (Refused BadList) → (lays list ≡ true → P m) → P (unless_unfit (plan list) m)
+unfit_ind : (P : Result ℕ MoveRefusal → Type 0) (list : List ℕ) (m : Result ℕ MoveRefusal) → P (Err BadList) → (lays list ≡ true → P m) → P (unless_unfit (plan list) m)
 unfolding plan
 unfit_ind P list m r i = by_cases (lays list) (λ y. rw y (i y)) (λ n. rw n r)
 
@@ -116,16 +102,16 @@ move_card_numbered old list n =
 
 -- ---- what a move knows that is not refused
 
-unless_held : (t : Bool) (w : MoveRefusal) (m : Moved) (l : ℕ) → refuse_unless t w m ≡ Image l → (t ≡ true) × (m ≡ Image l)
+unless_held : (t : Bool) (w : MoveRefusal) (m : Result ℕ MoveRefusal) (l : ℕ) → refuse_unless t w m ≡ Ok l → (t ≡ true) × (m ≡ Ok l)
 unless_held true w m l e = (refl, e)
 unless_held false w m l e = absurd (let z : ◌≡◌ {A = ℕ} 0 1 = cc in omega arith)
 
-unfit_held : (list : List ℕ) (m : Moved) (l : ℕ) → unless_unfit (plan list) m ≡ Image l → (lays list ≡ true) × (m ≡ Image l)
+unfit_held : (list : List ℕ) (m : Result ℕ MoveRefusal) (l : ℕ) → unless_unfit (plan list) m ≡ Ok l → (lays list ≡ true) × (m ≡ Ok l)
 unfolding plan
 unfit_held list m l e =
     by_cases (lays list)
     (λ y. (y, simp y at e))
-    (λ n. absurd (let z : Refused BadList ≡ Image l = simp n at e in let x : ◌≡◌ {A = ℕ} 0 1 = cc in omega arith))
+    (λ n. absurd (let z : Err BadList ≡ Ok l = simp n at e in let x : ◌≡◌ {A = ℕ} 0 1 = cc in omega arith))
 
 pub record Accepted (old list : List ℕ) (n l : ℕ) : Type 0 where
   pub well : well_formed old ≡ true
@@ -135,7 +121,7 @@ pub record Accepted (old list : List ℕ) (n l : ℕ) : Type 0 where
   pub long : length (moved old list) ≤ n
   pub is : length (moved old list) ≡ l
 
-pub move_card_facts : (old list : List ℕ) (n l : ℕ) → move_card old list n ≡ Image l → Accepted old list n l
+pub move_card_facts : (old list : List ℕ) (n l : ℕ) → move_card old list n ≡ Ok l → Accepted old list n l
 unfolding move_card
 move_card_facts old list n l e =
     let a = unless_held (well_formed old) BadImage _ l e in

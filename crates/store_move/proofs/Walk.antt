@@ -2,22 +2,20 @@
 -- Read before: specs/Loops.antt. Exports: `stand_start`, `stand_next`, `Here`, `here` (what stands at a place), `met_…`, `meets-…` (whether it is of a
 -- kind).
 use Prim.Native.Nat.{ℕ, zero, suc, ◌+◌, ◌≤◌, ◌<◌}
-use mathlib.Core.Path.{◌≡◌, refl, sym, ap, ◌∙◌}
-use mathlib.Core.Bool.{true, false, and-true}
+use mathlib.Core.Path.{◌≡◌, refl, sym, ◌∙◌}
+use mathlib.Core.Bool.{true}
 use mathlib.Core.List.{List}
 use native.Mathlib.Omega.{arith}
 use lib.ListN.{length}
-use lib.Dec.{eqb}
-use borrow.Author.Tests.{le-leb, eq-eqb, ne_eqb, ltb-true, eqb-true, lt-ltb, le-ltb}
-use Rattle.base.specs.Choice.{all_of}
+use borrow.Author.Tests.{le-leb, eq-eqb, ne_eqb, ltb-true, eqb-true}
 use Rattle.base.specs.Bytes.{part}
 use Rattle.base.proofs.Cases.{all_of_facts}
 use Rattle.store_image.specs.Image.{len_at, kind_at, end_at, find_from, find, sections_ok, well_formed, body}
-use Rattle.store_image.specs.declared.Found.TheVariants.{At}
 use Rattle.store_image.proofs.Sections.{section_ok_facts}
 use Rattle.store_image.proofs.Splicing.{open_sections, sections_of}
 use Rattle.store_image.proofs.Files.{body-found}
 use Rattle.store_move.specs.Loops.{Standing, meets}
+use Rattle.std.specs.Prelude.{Some}
 
 pub stand_start : (old : List ℕ) → well_formed old ≡ true → Standing old 0
 unfolding find
@@ -26,7 +24,7 @@ stand_start old o = record { last = 0; fuel = length old; enough = omega arith; 
 -- what stands at a place before the end
 pub record Here (old : List ℕ) (p : ℕ) : Type 0 where
   pub whole : end_at old p ≤ length old
-  pub found : find old (kind_at old p) ≡ At (p + 6) (len_at old p)
+  pub found : find old (kind_at old p) ≡ Some (p + 6, len_at old p)
   pub next : Standing old (end_at old p)
 
 pub here : (old : List ℕ) (p : ℕ) → Standing old p → p < length old → Here old p
@@ -71,11 +69,3 @@ module _ (old : List ℕ) (p k : ℕ) (s : Standing old p) (m : meets old p k �
   met_body l e =
       let i : kind_at old p ≡ k = eqb-true _ _ (all_of_facts _ m).1.0 in
       rw e (sym (body-found old k (p + 6) (len_at old p) (rw (← i) (here old p s before-end).found)))
-
-pub meets_past : (old : List ℕ) (p k : ℕ) → length old ≤ p → meets old p k ≡ false
-unfolding meets all_of
-meets_past old p k h = simp (le-ltb _ _ h)
-
-pub meets-there : (old : List ℕ) (p k : ℕ) → p < length old → (j : ℕ) → j ≡ kind_at old p → eqb j k ≡ meets old p k
-unfolding meets all_of
-meets-there old p k h j e = simp (lt-ltb _ _ h, and-true) (ap (λ (n : ℕ). eqb n k) e)

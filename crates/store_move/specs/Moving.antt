@@ -1,19 +1,15 @@
 -- The move of a card to other rooms. A list of kinds with new body lengths lays out a new image, and each file of the old image is in it
 -- with its content: all records under their old numbers, a biometrics file with its state and the bytes written. All other bytes of a body
 -- are zero, so that a kind which the old image lacks is an empty file. The target keeps what lies behind the new image.
-use Rattle.std.specs.Prelude.{ℕ, zero, suc, ◌+◌, ◌≤◌, Bool, true, false, ◌&&◌, ◌||◌, List, ◌++◌, length, take, drop, leb}
+use Rattle.std.specs.Prelude.{ℕ, zero, suc, ◌+◌, ◌≤◌, Bool, true, false, ◌&&◌, ◌||◌, List, ◌++◌, length, take, drop, leb, Option, Some, None, Result, Ok, Err}
 use Rattle.base.specs.Choice.{if_else}
 use Rattle.store_records.specs.Body.{used}
 use Rattle.store_kinds.specs.Biometrics.{written}
 use Rattle.store_kinds.specs.Rules.{is_biometrics}
 use Rattle.store_image.specs.Image.{kind_at, end_at, has, well_formed, body}
 use Rattle.store_move_plan.specs.Rooms.{rows, row_room, row_kind, laid, blank, plan}
-use Rattle.store_move_plan.specs.declared.Laid.{Laid}
-use Rattle.store_move_plan.specs.declared.Laid.TheVariants.{Total, Unfit}
 use Rattle.store_move.specs.declared.MoveRefusal.{MoveRefusal}
 use Rattle.store_move.specs.declared.MoveRefusal.TheVariants.{BadImage, BadList, MissingKind, SmallRoom, ShortTarget}
-use Rattle.store_move.specs.declared.Moved.{Moved}
-use Rattle.store_move.specs.declared.Moved.TheVariants.{Image, Refused}
 
 -- how many bytes of a body of kind k are content: state, w and the bytes written, or the bytes used [M3]
 unfoldable pub content_length : ℕ → List ℕ → ℕ
@@ -56,35 +52,35 @@ move_refusal_number SmallRoom = 12
 move_refusal_number ShortTarget = 13
 
 -- the refusal w where the test does not hold [M9]
-abbrev pub refuse_unless : Bool → MoveRefusal → Moved → Moved
+abbrev pub refuse_unless : Bool → MoveRefusal → Result ℕ MoveRefusal → Result ℕ MoveRefusal
 refuse_unless true w further = further
-refuse_unless false w further = Refused w
+refuse_unless false w further = Err w
 
 -- by what a list lays out: where it is no image, the move is refused [M5] [C2]
-abbrev pub unless_unfit : Laid → Moved → Moved
-unless_unfit (Total n) further = further
-unless_unfit Unfit further = Refused BadList
+abbrev pub unless_unfit : Option ℕ → Result ℕ MoveRefusal → Result ℕ MoveRefusal
+unless_unfit (Some n) further = further
+unless_unfit None further = Err BadList
 
 -- what a move into a target of n bytes comes to: the first refusal in this order whose test fails, else the length of the new image [M8] [M9]
-unfoldable pub move_card : List ℕ → List ℕ → ℕ → Moved
+unfoldable pub move_card : List ℕ → List ℕ → ℕ → Result ℕ MoveRefusal
 move_card old list n =
     refuse_unless (well_formed old) BadImage
     (unless_unfit (plan list)
     (refuse_unless (lists old list) MissingKind
     (refuse_unless (roomy old list) SmallRoom
     (refuse_unless (leb (length (moved old list)) n) ShortTarget
-    (Image (length (moved old list)))))))
+    (Ok (length (moved old list)))))))
 
 -- the target t afterwards: as it was, or the new image with what was behind it [M10]
-abbrev pub target_after : Moved → List ℕ → List ℕ → List ℕ
-target_after (Refused w) img t = t
-target_after (Image n) img t = img ++ drop (length img) t
+abbrev pub target_after : Result ℕ MoveRefusal → List ℕ → List ℕ → List ℕ
+target_after (Err w) img t = t
+target_after (Ok n) img t = img ++ drop (length img) t
 
 -- [M10]
 unfoldable pub move_card_into : List ℕ → List ℕ → List ℕ → List ℕ
 move_card_into old list t = target_after (move_card old list (length t)) (moved old list) t
 
 -- how large the numbers are that a move answers [X6]
-abbrev pub Numbered : Moved → Type 0
-Numbered (Refused w) = move_refusal_number w ≤ 13
-Numbered (Image n) = n ≤ 262144
+abbrev pub Numbered : Result ℕ MoveRefusal → Type 0
+Numbered (Err w) = move_refusal_number w ≤ 13
+Numbered (Ok n) = n ≤ 262144

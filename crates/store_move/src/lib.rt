@@ -10,7 +10,7 @@ ghost use Rattle.store_move.specs.Loops.{Standing, meets};
 use store_image::{body, well_formed};
 use store_kinds::biometrics::written;
 use store_kinds::rules::is_biometrics;
-use store_move_plan::{Laid, listed, plan};
+use store_move_plan::{listed, plan};
 use store_records::body::used;
 use store_records::little::{read16, read32};
 
@@ -25,32 +25,25 @@ pub enum MoveRefusal {
     ShortTarget,
 }
 
-// The length of the new image, or why there is none.
-#[derive(Clone, Copy)]
-pub enum Moved {
-    Image(usize),
-    Refused(MoveRefusal),
-}
-
 // How many bytes of a body are content.
+#[tactic(auto, unfolding(crate::specs::Moving::content_length, store_image::specs::Image::body))]
 fn content_length(kind: usize, body: &[u8]) -> usize
     ensures { result ≡ content_length kind body.now }
 {
     if is_biometrics(kind) {
-        return 5 + written(body);
+        5 + written(body)
+    } else {
+        used(body)
     }
-    used(body)
 }
 
 // Whether the section at `from` is of a kind.
+#[tactic(auto, unfolding(crate::specs::Loops::meets, base::specs::Choice::all_of))]
 fn met(old: &[u8], from: usize, kind: usize) -> bool
     requires { Standing old.now from }
     ensures { result ≡ meets old.now from kind }
 {
-    if old.len() <= from {
-        return false;
-    }
-    read16(old, from + 4) == kind
+    from < old.len() && read16(old, from + 4) == kind
 }
 
 // The place behind the section at `from`, where it is of a kind; else `from`.
@@ -58,10 +51,11 @@ fn behind(old: &[u8], from: usize, kind: usize) -> usize
     requires { Standing old.now from }
     ensures { Standing old.now result }
 {
-    if !met(old, from, kind) {
-        return from;
+    if met(old, from, kind) {
+        from + 6 + read32(old, from)
+    } else {
+        from
     }
-    from + 6 + read32(old, from)
 }
 
 // The body of the file of a kind. Where a list has the old image's kinds in their order, each is the one at `from`, behind the one
@@ -70,13 +64,15 @@ fn body_near(old: &[u8], from: usize, kind: usize) -> &[u8]
     requires { Standing old.now from }
     ensures { result.now ≡ body old.now kind }
 {
-    if !met(old, from, kind) {
-        return body(old, kind);
+    if met(old, from, kind) {
+        base::part(old, from + 6, read32(old, from))
+    } else {
+        body(old, kind)
     }
-    base::part(old, from + 6, read32(old, from))
 }
 
 // The content of the file of a kind, as the part of the image that it is; an empty part where there is no such file.
+#[tactic(auto, unfolding(crate::specs::Moving::content))]
 fn content(old: &[u8], from: usize, kind: usize) -> &[u8]
     requires { Standing old.now from }
     ensures { result.now ≡ content old.now kind }
@@ -89,10 +85,8 @@ fn content(old: &[u8], from: usize, kind: usize) -> &[u8]
 fn listed_near(list: &[u8], i: usize, kind: usize) -> bool
     ensures { result ≡ has (blank list.now) kind }
 {
-    if i < list.len() / 6 {
-        if read16(list, 6 * i + 4) == kind {
-            return true;
-        }
+    if i < list.len() / 6 && read16(list, 6 * i + 4) == kind {
+        return true;
     }
     listed(list, kind)
 }
@@ -104,6 +98,7 @@ fn lists(old: &[u8], list: &[u8]) -> bool
 {
     let mut at = 0;
     let mut i = 0;
+    // No `for`: how far the next section is stands in this one.
     while at < old.len() {
         if !listed_near(list, i, read16(old, at + 4)) {
             return false;
@@ -116,15 +111,13 @@ fn lists(old: &[u8], list: &[u8]) -> bool
 
 // Whether the content of the file of a kind fits in a room. Where all of its body does, so does its content, and its records need not be
 // walked.
+#[tactic(auto, unfolding(crate::specs::Moving::content))]
 fn fits(old: &[u8], from: usize, kind: usize, room: usize) -> bool
     requires { Standing old.now from }
     ensures { result ≡ leb (length (content old.now kind)) room }
 {
     let b = body_near(old, from, kind);
-    if b.len() <= room {
-        return true;
-    }
-    content_length(kind, b) <= room
+    b.len() <= room || content_length(kind, b) <= room
 }
 
 // Whether each content fits in its room.
@@ -132,29 +125,15 @@ fn roomy(old: &[u8], list: &[u8]) -> bool
     requires { well_formed old.now ≡ true }
     ensures { result ≡ roomy old.now list.now }
 {
-    let n = list.len() / 6;
     let mut from = 0;
-    let mut i = 0;
-    while i < n {
+    for i in 0..list.len() / 6 {
         let kind = read16(list, 6 * i + 4);
         if !fits(old, from, kind, read32(list, 6 * i)) {
             return false;
         }
         from = behind(old, from, kind);
-        i += 1;
     }
     true
-}
-
-// Makes all bytes zero.
-fn clear(room: &mut [u8])
-    ensures { room.new ≡ zeros (length room.old) }
-{
-    let mut cleared = 0;
-    while cleared < room.len() {
-        room[cleared] = 0;
-        cleared += 1;
-    }
 }
 
 // Writes a section: its head, its content, and zeros up to its end.
@@ -164,8 +143,7 @@ fn write_section(section: &mut [u8], head: &[u8], content: &[u8])
 {
     base::put(section, 0, head);
     base::put(section, 6, content);
-    let free = 6 + content.len();
-    clear(&mut section[free..]);
+    section[6 + content.len()..].fill(0);
 }
 
 // Writes the new image.
@@ -173,11 +151,9 @@ fn write(old: &[u8], list: &[u8], target: &mut [u8])
     requires { (well_formed old.now ≡ true) × (roomy old.now list.now ≡ true) × (length (moved old.now list.now) ≤ length target.old) }
     ensures { target.new ≡ moved old.now list.now ++ drop (length (moved old.now list.now)) target.old }
 {
-    let n = list.len() / 6;
     let mut from = 0;
     let mut at = 0;
-    let mut i = 0;
-    while i < n {
+    for i in 0..list.len() / 6 {
         let kind = read16(list, 6 * i + 4);
         let end = at + 6 + read32(list, 6 * i);
         write_section(
@@ -187,29 +163,29 @@ fn write(old: &[u8], list: &[u8], target: &mut [u8])
         );
         from = behind(old, from, kind);
         at = end;
-        i += 1;
     }
 }
 
 // Moves every file of the old image into the target, by a list of rooms.
-pub fn move_card(old: &[u8], list: &[u8], target: &mut [u8]) -> Moved
+#[tactic(auto, unfolding(crate::specs::Moving::move_card, crate::specs::Moving::move_card_into))]
+pub fn move_card(old: &[u8], list: &[u8], target: &mut [u8]) -> Result<usize, MoveRefusal>
     ensures { (result ≡ move_card old.now list.now (length target.old)) × (target.new ≡ move_card_into old.now list.now target.old) }
 {
     if !well_formed(old) {
-        return Moved::Refused(MoveRefusal::BadImage);
+        return Err(MoveRefusal::BadImage);
     }
-    let Laid::Total(n) = plan(list) else {
-        return Moved::Refused(MoveRefusal::BadList);
+    let Some(n) = plan(list) else {
+        return Err(MoveRefusal::BadList);
     };
     if !lists(old, list) {
-        return Moved::Refused(MoveRefusal::MissingKind);
+        return Err(MoveRefusal::MissingKind);
     }
     if !roomy(old, list) {
-        return Moved::Refused(MoveRefusal::SmallRoom);
+        return Err(MoveRefusal::SmallRoom);
     }
     if target.len() < n {
-        return Moved::Refused(MoveRefusal::ShortTarget);
+        return Err(MoveRefusal::ShortTarget);
     }
     write(old, list, target);
-    Moved::Image(n)
+    Ok(n)
 }

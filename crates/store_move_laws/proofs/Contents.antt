@@ -19,14 +19,14 @@ use Rattle.store_records.proofs.Appending.{place_agree, firsts_agree, ok_to_agre
 use Rattle.store_kinds.specs.Biometrics.{state, written, room, written_bytes, largest_room, bio_ok}
 use Rattle.store_kinds.specs.Rules.{rule_of, is_biometrics, kind_ok_by, kind_ok}
 use Rattle.store_kinds.specs.declared.rules.Key.TheVariants.{Kind}
-use Rattle.store_kinds.specs.declared.rules.Ruled.{Ruled}
-use Rattle.store_kinds.specs.declared.rules.Ruled.TheVariants.{Is, Nothing}
 use Rattle.store_kinds.proofs.Updating.{bio_ok_facts, bio_ok_accepted}
 use Rattle.store_image.proofs.Laws.{body-used, biometrics-kind}
 use Rattle.store_move_plan.specs.Rooms.{zeros, filled}
 use Rattle.store_move_plan.proofs.Rows.{filled-length}
 use Rattle.store_move_plan.proofs.Empty.{empty_count, empty_written, empty_records, empty_biometrics}
 use Rattle.store_move.specs.Moving.{content_length}
+use Rattle.std.specs.Prelude.{Option, Some, None}
+use Rattle.store_kinds.specs.declared.rules.Rule.{Rule}
 
 -- ---- the first b bytes of a body in a room of n bytes
 
@@ -179,9 +179,9 @@ record_kind : (k : ℕ) (xs : List ℕ) → is_biometrics k ≡ false → kind_o
 unfolding kind_ok
 record_kind k xs b = go (rule_of (Kind k)) refl
   where
-    go : (f : Ruled) → rule_of (Kind k) ≡ f → kind_ok_by f k xs ≡ true → (L : ℕ) × (M : ℕ) × ((ys : List ℕ) → kind_ok_by (rule_of (Kind k)) k ys ≡ body_ok L M ys)
-    go (Is r) e o = (r.longest, r.most, λ ys. ap (λ (f : Ruled). kind_ok_by f k ys) e)
-    go Nothing e o = false-true (rw b at o)
+    go : (f : Option Rule) → rule_of (Kind k) ≡ f → kind_ok_by f k xs ≡ true → (L : ℕ) × (M : ℕ) × ((ys : List ℕ) → kind_ok_by (rule_of (Kind k)) k ys ≡ body_ok L M ys)
+    go (Some r) e o = (r.longest, r.most, λ ys. ap (λ (f : Option Rule). kind_ok_by f k ys) e)
+    go None e o = false-true (rw b at o)
 
 module _ (k : ℕ) (xs : List ℕ) (n : ℕ) (o : kind_ok k xs ≡ true) (fit : length (take (content_length k xs) xs) ≤ n) where
   -- the bytes used

@@ -14,7 +14,6 @@ use borrow.Author.Tests.{lt-leb, eqb-true, eqb-false}
 use Rattle.base.proofs.Cases.{false-true, by_cases, all_of_facts, all_of_accepted}
 use Rattle.store_kinds.specs.Rules.{application_of, kind_ok}
 use Rattle.store_image.specs.Image.{find, has, section_ok, sections_ok, well_formed, body}
-use Rattle.store_image.specs.declared.Found.TheVariants.{At, Missing}
 use Rattle.store_image.proofs.Sections.{section_ok_facts, section_ok_rest, sections_ok_end}
 use Rattle.store_image.proofs.Presence.{present-same}
 use Rattle.store_image.proofs.Splicing.{open_sections, sections_of}
@@ -22,14 +21,15 @@ use Rattle.store_image.proofs.Files.{body-found, has-found, has_missing}
 use Rattle.store_move_plan.specs.Rooms.{rows, row_room, row_kind, filled, sections, laid}
 use Rattle.store_move_plan.proofs.Rows.{place, len_there, kind-there, room-there, body-there, end_there}
 use Rattle.store_move_plan.proofs.Search.{Fits, all_rows, whole_row, same_place, same_length, Looking, look_start, look_none, look_hit, look_next}
+use Rattle.std.specs.Prelude.{Some, None}
 
 module _ (list : List ℕ) (c d : ℕ → List ℕ) (fc : Fits c list) (fd : Fits d list) where
   -- kind k is in neither, or in the same row of both
   data Met (k : ℕ) : Type 0 where
-    nowhere : find (laid c list) k ≡ Missing → find (laid d list) k ≡ Missing → Met k
+    nowhere : find (laid c list) k ≡ None → find (laid d list) k ≡ None → Met k
     in_row : (i : ℕ) → i < rows list → row_kind list i ≡ k
-        → find (laid c list) k ≡ At (place c list i + 6) (row_room list i)
-        → find (laid d list) k ≡ At (place d list i + 6) (row_room list i)
+        → find (laid c list) k ≡ Some (place c list i + 6, row_room list i)
+        → find (laid d list) k ≡ Some (place d list i + 6, row_room list i)
         → Met k
 
   -- both searches go down the rows side by side

@@ -16,7 +16,6 @@ use Rattle.base.proofs.Parts.{length_part}
 use Rattle.store_records.specs.Little.{le16, le32}
 use Rattle.store_records.proofs.Numbers.{le16-part, le32-part}
 use Rattle.store_image.specs.Image.{len_at, kind_at, end_at, find, has, well_formed, body}
-use Rattle.store_image.specs.declared.Found.TheVariants.{At}
 use Rattle.store_image.proofs.Files.{body-found, has-found, body-length}
 use Rattle.store_move_plan.specs.Rooms.{rows, row_room, row_kind, zeros, filled, section, sections, laid}
 use Rattle.store_move_plan.proofs.Rows.{row_inside, place, head-there, end_there}
@@ -24,6 +23,7 @@ use Rattle.store_move_plan.proofs.Search.{Fits, all_rows, whole_row}
 use Rattle.store_move_laws.specs.Same.{heads_from, heads}
 use Rattle.store_move.specs.Loops.{Standing}
 use Rattle.store_move.proofs.Walk.{stand_start, Here, here}
+use Rattle.std.specs.Prelude.{Some}
 
 -- ---- heads
 
@@ -134,7 +134,7 @@ module _ (old : List ℕ) (well : well_formed old ≡ true) where
       row_room_lem : row_room (heads old) i ≡ len_at old r.at
       row_room_lem = same_len (heads old) old (6 * i) r.at row
 
-      row-found : find old (row_kind (heads old) i) ≡ At (r.at + 6) (row_room (heads old) i)
+      row-found : find old (row_kind (heads old) i) ≡ Some (r.at + 6, row_room (heads old) i)
       row-found = rw (same_kind (heads old) old (6 * i) r.at row, row_room_lem) it.found
 
       -- its body fills its room
@@ -199,7 +199,7 @@ module _ (old : List ℕ) (well : well_formed old ≡ true) where
     this : Reached i
     this = reach i (omega arith)
 
-    found : find old (row_kind (heads old) i) ≡ At (this.at + 6) (row_room (heads old) i)
+    found : find old (row_kind (heads old) i) ≡ Some (this.at + 6, row_room (heads old) i)
     found = row-found i this (before-end i this h)
 
     pub own_has : has old (row_kind (heads old) i) ≡ true

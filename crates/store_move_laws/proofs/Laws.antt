@@ -24,8 +24,6 @@ use Rattle.store_move_plan.proofs.Blank.{filled_empty, none-fits}
 use Rattle.store_move.specs.Moving.{content_length, content, moved, lists, roomy, target_after, move_card, move_card_into}
 use Rattle.store_move_laws.specs.Same.{heads, FreeZero}
 use Rattle.store_move.specs.declared.MoveRefusal.{MoveRefusal}
-use Rattle.store_move.specs.declared.Moved.{Moved}
-use Rattle.store_move.specs.declared.Moved.TheVariants.{Image, Refused}
 use Rattle.store_move.proofs.Fitting.{roomy-at}
 use Rattle.store_move.proofs.Moves.{moved_length, Accepted, move_card_facts}
 use Rattle.store_move_laws.proofs.Contents.{refit, refill, kept-records, kept-state, kept-written, kept-content, kept_busy, kept-well_formed, zero-records, zero-content}
@@ -33,6 +31,7 @@ use Rattle.store_move_laws.proofs.Refusals.{all_fit, listed, all_listed}
 use Rattle.store_move_laws.proofs.Found.{has_same, filled-body, laid-well_formed}
 use Rattle.store_move_laws.proofs.Heads.{laid-heads, own_rows}
 use Rattle.store_move_laws.proofs.Same.{content-fits, empty_has, empty_length, blank-well_formed, own_moved}
+use Rattle.std.specs.Prelude.{Result, Ok, Err}
 
 -- a kind that is not in the old image has no content
 no-content : (old : List ℕ) (k : ℕ) → has old k ≡ false → content old k ≡ []
@@ -156,7 +155,7 @@ module _ (old : List ℕ) (well : well_formed old ≡ true) where
     all_fit old (heads old) (content-fits old well),
   )
 
-  pub same-moved : (n : ℕ) → length old ≤ n → move_card old (heads old) n ≡ Image (length old)
+  pub same-moved : (n : ℕ) → length old ≤ n → move_card old (heads old) n ≡ Ok (length old)
   unfolding move_card plan
   same-moved n h =
       let l : length (moved old (heads old)) ≡ length old = moved_length old (heads old) same_accepted.2 ∙ empty_length old well in
@@ -195,7 +194,7 @@ module _ (old a b : List ℕ) {n l m j : ℕ} (g : Accepted old a n l) (q : Acce
   moved_twice = sections-same (content (moved old a)) (content old) b (rows b) (λ i h. (same-room (row_kind b i) (row_room b i) (roomy-at (moved old a) b q.fit i h)).1)
 
   -- and no refusal comes in between
-  pub twice_moved : move_card old b m ≡ Image j
+  pub twice_moved : move_card old b m ≡ Ok j
   unfolding move_card plan
   twice_moved =
       let e : lists old b ≡ true = all_listed old b g.well (λ k h. listed (moved old a) b k q.all (moved-files old a g k h)) in
@@ -206,16 +205,16 @@ module _ (old a b : List ℕ) {n l m j : ℕ} (g : Accepted old a n l) (q : Acce
 -- ---- the target
 
 module _ (old list t : List ℕ) where
-  pub refused_target : (w : MoveRefusal) → move_card old list (length t) ≡ Refused w → move_card_into old list t ≡ t
+  pub refused_target : (w : MoveRefusal) → move_card old list (length t) ≡ Err w → move_card_into old list t ≡ t
   unfolding move_card_into
-  refused_target w e = ap (λ (m : Moved). target_after m (moved old list) t) e
+  refused_target w e = ap (λ (m : Result ℕ MoveRefusal). target_after m (moved old list) t) e
 
-  pub image_target : (n : ℕ) → move_card old list (length t) ≡ Image n → move_card_into old list t ≡ moved old list ++ drop n t
+  pub image_target : (n : ℕ) → move_card old list (length t) ≡ Ok n → move_card_into old list t ≡ moved old list ++ drop n t
   unfolding move_card_into
   image_target n e =
-      ap (λ (m : Moved). target_after m (moved old list) t) e ∙ ap (λ (k : ℕ). moved old list ++ drop k t) (move_card_facts old list (length t) n e).is
+      ap (λ (m : Result ℕ MoveRefusal). target_after m (moved old list) t) e ∙ ap (λ (k : ℕ). moved old list ++ drop k t) (move_card_facts old list (length t) n e).is
 
   -- its first bytes are the new image
-  pub image-first : (n : ℕ) → move_card old list (length t) ≡ Image n → take n (move_card_into old list t) ≡ moved old list
+  pub image-first : (n : ℕ) → move_card old list (length t) ≡ Ok n → take n (move_card_into old list t) ≡ moved old list
   image-first n e =
       ap (take n) (image_target n e) ∙ take_at (moved old list) (drop n t) n (move_card_facts old list (length t) n e).is

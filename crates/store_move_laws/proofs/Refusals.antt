@@ -10,7 +10,6 @@ use lib.Dec.{leb}
 use borrow.Author.Tests.{lt-leb, le-leb, leb-false}
 use Rattle.base.proofs.Cases.{by_cases, and_left, and_right}
 use Rattle.store_image.specs.Image.{kind_at, end_at, find_from, find, has, well_formed}
-use Rattle.store_image.specs.declared.Found.TheVariants.{At}
 use Rattle.store_image.proofs.Splicing.{missing_at, Way, here-it-is, further, way}
 use Rattle.store_image.proofs.Files.{There, there, has-at, has-found}
 use Rattle.store_move_plan.specs.Rooms.{rows, blank}
@@ -18,6 +17,7 @@ use Rattle.store_move_plan.proofs.Search.{Fits}
 use Rattle.store_move.specs.Moving.{content, lists_from, lists, roomy_to, roomy}
 use Rattle.store_move.specs.Loops.{Standing}
 use Rattle.store_move.proofs.Walk.{stand_start, here}
+use Rattle.std.specs.Prelude.{Some}
 
 -- ---- each room holds its content
 
@@ -33,7 +33,7 @@ all_fit old list f = go (rows list) (omega arith)
 -- ---- each kind of the old image has a row
 
 -- the section that a search finds in the old image is one of those whose kind was looked up
-listed-from : (f : ℕ) (old list : List ℕ) (p k s n : ℕ) → lists_from f old p list ≡ true → find_from f old p k ≡ At s n → has (blank list) k ≡ true
+listed-from : (f : ℕ) (old list : List ℕ) (p k s n : ℕ) → lists_from f old p list ≡ true → find_from f old p k ≡ Some (s, n) → has (blank list) k ≡ true
 unfolding find_from
 listed-from zero old list p k s n a e = missing_at s n e
 listed-from (suc f) old list p k s n a e = go (listed-from f old list (end_at old p) k s n) (way f old p k s n e)
@@ -43,7 +43,7 @@ listed-from (suc f) old list p k s n a e = go (listed-from f old list (end_at ol
         let t : (has (blank list) (kind_at old p) && lists_from f old (end_at old p) list) ≡ true = unfold lists_from in (simp (lt-leb (length old) p (omega arith)) at a) in
         (and_left (has (blank list) (kind_at old p)) _ t, and_right (has (blank list) (kind_at old p)) _ t)
 
-    go : (lists_from f old (end_at old p) list ≡ true → find_from f old (end_at old p) k ≡ At s n → has (blank list) k ≡ true) → Way old p k s n f → has (blank list) k ≡ true
+    go : (lists_from f old (end_at old p) list ≡ true → find_from f old (end_at old p) k ≡ Some (s, n) → has (blank list) k ≡ true) → Way old p k s n f → has (blank list) k ≡ true
     go r (here-it-is h i j l) = rw (← i) (parts h).0
     go r (further h i j) = r (parts h).1 j
 

@@ -12,8 +12,8 @@ use Rattle.store_image.specs.Image.{find_from, find, has, present, section_ok, s
 use Rattle.store_move_plan.specs.Rooms.{rows, filled, section, sections, laid, blank, lays, plan}
 use Rattle.store_move.specs.Moving.{content_length, content, moved, lists_from, lists, roomy_to, roomy, move_card, move_card_into}
 use Rattle.store_move.specs.declared.MoveRefusal.TheVariants.{BadImage, BadList, MissingKind, SmallRoom, ShortTarget}
-use Rattle.store_move.specs.declared.Moved.TheVariants.{Image, Refused}
 use Rattle.store_move_laws.specs.Same.{heads_from, heads}
+use Rattle.std.specs.Prelude.{Ok, Err}
 
 -- the biometrics application: one certificate of two bytes, and Biometrics 1, Activated, with two bytes written; the free bytes are not zero
 abbrev old : List ℕ
@@ -47,7 +47,7 @@ pub worked : ((move_card old list 41
     ∷ move_card old small 41
     ∷ move_card old list 40
     ∷ [])
-    ≡ (Image 41 ∷ Refused BadImage ∷ Refused BadList ∷ Refused BadList ∷ Refused MissingKind ∷ Refused SmallRoom ∷ Refused ShortTarget ∷ []))
+    ≡ (Ok 41 ∷ Err BadImage ∷ Err BadList ∷ Err BadList ∷ Err MissingKind ∷ Err SmallRoom ∷ Err ShortTarget ∷ []))
     × (move_card_into old list (replicate 43 0x5A) ≡ new ++ (0x5A ∷ 0x5A ∷ []))
     × (move_card_into new (heads new) (replicate 41 0x5A) ≡ new)
 unfolding all_of le16 le32 count place used ok_at ok_to body_ok state written room bio_ok rules first_rule rule_of all_rules is_biometrics kind_ok find_from find has there present_by present application_of section_ok sections_ok well_formed body rows filled section sections laid blank lays plan content_length content moved lists_from lists roomy_to roomy move_card move_card_into heads_from heads

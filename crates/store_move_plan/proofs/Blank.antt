@@ -16,9 +16,9 @@ use Rattle.store_kinds.specs.Rules.{application_of, kind_ok}
 use Rattle.store_image.specs.Image.{len_at, kind_at, is_at, has, present, section_ok, well_formed}
 use Rattle.store_image.proofs.Sections.{Seeking, Walking, walk_start, walk_long, walk_end, walk_refused, walk_next, section_ok-order, section_ok-body, section_ok_rest}
 use Rattle.store_move_plan.specs.Rooms.{rows, zeros, row_room, row_kind, filled, no_content, sections, laid, blank, lays, plan}
-use Rattle.store_move_plan.specs.declared.Laid.TheVariants.{Total, Unfit}
 use Rattle.store_move_plan.proofs.Search as search
 use Rattle.store_move_plan.proofs.Rows.{place, len_there, kind-there, room-there, place_next, end_inside}
+use Rattle.std.specs.Prelude.{Some, None}
 
 pub filled_empty : (n : ℕ) → filled n [] ≡ zeros n
 unfolding filled
@@ -122,11 +122,11 @@ module _ (list : List ℕ) where
   unfolding sections
   lay_start h = walk_start (blank list) h
 
-  plan-refused : well_formed (blank list) ≡ false → Unfit ≡ plan list
+  plan-refused : well_formed (blank list) ≡ false → None ≡ plan list
   unfolding plan lays all_of
   plan-refused e = by_cases (eqb (length list % 6) 0) (λ y. simp (y, e)) (λ n. simp n)
 
-  pub plan_torn : (length list % 6 ≡ 0 → ⊥) → Unfit ≡ plan list
+  pub plan_torn : (length list % 6 ≡ 0 → ⊥) → None ≡ plan list
   unfolding plan lays all_of
   plan_torn h = simp (ne_eqb _ _ h)
 
@@ -135,11 +135,11 @@ module _ (list : List ℕ) where
     pub at_next : p + 6 + l ≡ at (i + 1)
     at_next = omega (arith, blank_next i h)
 
-    pub plan-long : 262144 < p + 6 + l → Unfit ≡ plan list
+    pub plan-long : 262144 < p + 6 + l → None ≡ plan list
     plan-long g = plan-refused (sym (walk_long (blank list) (omega (arith, at_next, blank-inside i h))))
 
   module _ (i last : ℕ) (w : Laying i last) where
-    pub plan-refused_row : i < rows list → section_ok (blank list) (at i) last ≡ false → Unfit ≡ plan list
+    pub plan-refused_row : i < rows list → section_ok (blank list) (at i) last ≡ false → None ≡ plan list
     plan-refused_row h e =
         plan-refused (by_cases (leb (length (blank list)) 262144)
         (λ y. sym (walk_refused (blank list) (at i) last (w (leb-true _ _ y)) (omega (arith, blank_next i h, blank-inside i h)) e))
@@ -150,9 +150,9 @@ module _ (list : List ℕ) where
         subst (λ (p : ℕ). Walking (blank list) p j) (sym (blank_next i h))
         (walk_next (blank list) (at i) last (w s) (omega (arith, blank_next i h, blank-inside i h)) (row_room list i) j (sym (blank_len i h)) (ej ∙ sym (blank-kind i h)) e)
 
-    pub plan-total : (p : ℕ) → p ≡ at i → i ≡ rows list → p ≤ 262144 → length list % 6 ≡ 0 → Total p ≡ plan list
+    pub plan-total : (p : ℕ) → p ≡ at i → i ≡ rows list → p ≤ 262144 → length list % 6 ≡ 0 → Some p ≡ plan list
     unfolding plan lays all_of
     plan-total p ep e s d =
         let l : length (blank list) ≡ p = at-end ∙ ap at (sym e) ∙ sym ep in
         let o : well_formed (blank list) ≡ true = sym (walk_end (blank list) (at i) last (w (omega arith)) (omega arith)) in
-        simp (eq-eqb _ _ d, o) (ap Total (sym l))
+        simp (eq-eqb _ _ d, o) (ap Some (sym l))

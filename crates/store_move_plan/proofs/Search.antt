@@ -8,10 +8,10 @@ use native.Mathlib.Omega.{arith}
 use native.Mathlib.Numerals.{add-one}
 use lib.ListN.{length}
 use Rattle.store_image.specs.Image.{find}
-use Rattle.store_image.specs.declared.Found.TheVariants.{At, Missing}
 use Rattle.store_image.proofs.Sections.{Seeking, seek_start, seek_none, seek_hit, seek_next}
 use Rattle.store_move_plan.specs.Rooms.{rows, row_room, row_kind, sections, laid}
 use Rattle.store_move_plan.proofs.Rows.{place, len_there, kind-there, place_next, end_inside}
+use Rattle.std.specs.Prelude.{Some, None}
 
 -- the content of each row fits in its room
 abbrev pub Fits : (ℕ → List ℕ) → List ℕ → Type 0
@@ -34,13 +34,13 @@ module _ (c : ℕ → List ℕ) (list : List ℕ) (fit : Fits c list) where
   look_start k = seek_start (laid c list) k
 
   module _ (k i : ℕ) (s : Looking k i) where
-    pub look_none : i ≡ rows list → find (laid c list) k ≡ Missing
+    pub look_none : i ≡ rows list → find (laid c list) k ≡ None
     look_none e =
         let l : place c list i ≡ length (laid c list) = ap (place c list) e ∙ all_rows in
         sym (seek_none (laid c list) k (place c list i) s (omega arith))
 
     module _ (h : i < rows list) where
-      pub look_hit : row_kind list i ≡ k → find (laid c list) k ≡ At (place c list i + 6) (row_room list i)
+      pub look_hit : row_kind list i ≡ k → find (laid c list) k ≡ Some (place c list i + 6, row_room list i)
       look_hit e =
           sym (seek_hit (laid c list) k (place c list i) s (row_room list i) (row_kind list i) (sym (len_there c list i h)) (sym (kind-there c list i h)) (whole_row i h) e)
 

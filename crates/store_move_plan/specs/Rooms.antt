@@ -1,11 +1,9 @@
 -- A list of kinds with the lengths of their rooms, and the image that it lays out. A row has the bytes of a section's head, so that len_at and
 -- kind_at read it, and row i stands at 6 · i.
-use Rattle.std.specs.Prelude.{ℕ, zero, suc, ◌-◌, ◌*◌, ◌/◌, ◌%◌, Bool, List, [], ◌∷◌, ◌++◌, length, replicate, eqb}
+use Rattle.std.specs.Prelude.{ℕ, zero, suc, ◌-◌, ◌*◌, ◌/◌, ◌%◌, Bool, List, [], ◌∷◌, ◌++◌, length, replicate, eqb, Option, Some, None}
 use Rattle.base.specs.Choice.{if_else, all_of}
 use Rattle.base.specs.Bytes.{part}
 use Rattle.store_image.specs.Image.{len_at, kind_at, well_formed}
-use Rattle.store_move_plan.specs.declared.Laid.{Laid}
-use Rattle.store_move_plan.specs.declared.Laid.TheVariants.{Total, Unfit}
 
 -- how many rows are whole [M1]
 unfoldable pub rows : List ℕ → ℕ
@@ -53,5 +51,5 @@ unfoldable pub lays : List ℕ → Bool
 lays list = all_of (eqb (length list % 6) 0 ∷ well_formed (blank list) ∷ [])
 
 -- that image's length, where it does [M5]
-unfoldable pub plan : List ℕ → Laid
-plan list = if_else (lays list) (Total (length (blank list))) Unfit
+unfoldable pub plan : List ℕ → Option ℕ
+plan list = if_else (lays list) (Some (length (blank list))) None

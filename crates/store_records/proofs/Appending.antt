@@ -3,7 +3,7 @@
 -- `append-refused`, `length-record_bytes`, `appended-…` (the body afterwards), `…-agree` (bodies that agree up to a place have the same records there).
 use Prim.Native.Nat.{ℕ, zero, suc, ◌+◌, ◌/◌, ◌%◌, ◌≤◌, ◌<◌}
 use mathlib.Core.Path.{◌≡◌, refl, sym, ap, ap₂, ◌∙◌}
-use mathlib.Core.Bool.{Bool, true, false, ◌&&◌, and-false}
+use mathlib.Core.Bool.{Bool, true, false, ◌&&◌}
 use mathlib.Core.List.{List, [], ◌∷◌, ◌++◌}
 use native.Mathlib.Omega.{arith}
 use native.Mathlib.Numerals.{add-one}
@@ -11,7 +11,7 @@ use native.Mathlib.Nat.{add-zero}
 use lib.ListN.{length, take, drop, set, length-set, length-append}
 use lib.Seq.{sets, length-sets, get_or-set_other, drop-set-lt}
 use lib.Dec.{leb}
-use borrow.Author.Tests.{le-leb, lt-leb, leb-true, lt-ltb, le-ltb, ltb-true}
+use borrow.Author.Tests.{le-leb, lt-leb, leb-true, lt-ltb, ltb-true}
 use Rattle.base.specs.Choice.{all_of}
 use Rattle.base.specs.Bytes.{part}
 use Rattle.base.proofs.Cases.{if_else_ind, all_of_facts, all_of_accepted}
@@ -38,21 +38,9 @@ module _ (xs : List ℕ) (n : ℕ) where
   unfolding appendable append_fits
   appendable_accepted h i j = all_of_accepted _ (le-leb _ _ h, (lt-ltb _ _ i, (lt-ltb _ _ j, tt)))
 
-  -- the same, as the code has the test of the room
-  pub appendable-room : (at : ℕ) → at ≡ used xs → leb (at + 2 + n) (length xs) ≡ true → n < 65536 → count xs + 1 < 65536 → appendable xs n ≡ true
-  appendable-room at e f = appendable_accepted (let h = leb-true (at + 2 + n) (length xs) f in omega arith)
-
   pub appendable_full : (at : ℕ) → at ≡ used xs → leb (at + 2 + n) (length xs) ≡ false → appendable xs n ≡ false
   unfolding appendable append_fits all_of
   appendable_full at e f = simp (← e, f)
-
-  pub appendable-long : 65536 ≤ n → appendable xs n ≡ false
-  unfolding appendable all_of
-  appendable-long h = simp (le-ltb _ _ h, and-false)
-
-  pub appendable_many : 65536 ≤ count xs + 1 → appendable xs n ≡ false
-  unfolding appendable all_of
-  appendable_many h = simp (le-ltb _ _ h, and-false)
 
 -- what an append leaves: where the body can take the record, and where not
 pub append_accepted : (xs d : List ℕ) → appendable xs (length d) ≡ true → append xs d ≡ appended xs d

@@ -32,14 +32,6 @@ module _ (L : ℕ) (xs : List ℕ) (p : ℕ) where
       let h = all_of_facts _ e in
       record { some = leb-true _ _ h.0; short = leb-true _ _ h.1.0; whole = leb-true _ _ h.1.1.0 }
 
-  pub ok_at-zero : le16 xs p < 1 → ok_at L xs p ≡ false
-  unfolding ok_at all_of
-  ok_at-zero h = simp (lt-leb _ _ h)
-
-  pub ok_at-long : L < le16 xs p → ok_at L xs p ≡ false
-  unfolding ok_at all_of
-  ok_at-long h = simp (lt-leb _ _ h, and-false)
-
   pub ok_at_rest : 1 ≤ le16 xs p → le16 xs p ≤ L → ok_at L xs p ≡ leb (next_place xs p) (length xs)
   unfolding ok_at all_of
   ok_at_rest h i = simp (le-leb _ _ h, le-leb _ _ i, and-true)
@@ -124,10 +116,6 @@ module _ (L M : ℕ) (xs : List ℕ) where
   unfolding body_ok all_of
   body_ok-short h = simp (lt-leb _ _ h)
 
-  pub body_ok_many : M < count xs → body_ok L M xs ≡ false
-  unfolding body_ok all_of
-  body_ok_many h = simp (lt-leb _ _ h, and-false)
-
   pub body_ok-refused : (i : ℕ) → i < count xs → ok_at L xs (place xs i) ≡ false → body_ok L M xs ≡ false
   unfolding body_ok all_of
   body_ok-refused i h e = simp (ok_to-refused L xs i (count xs) h e, and-false)
@@ -177,9 +165,6 @@ behind_past xs p h = simp (le-ltb _ _ h)
 pub behind_next : (xs : List ℕ) (p : ℕ) → p < length xs → behind xs p ≡ next_place xs p
 unfolding behind
 behind_next xs p h = simp (lt-ltb _ _ h)
-
-pub behind_by : (xs : List ℕ) (p k : ℕ) → p < length xs → k ≡ le16 xs p → p + 2 + k ≡ behind xs p
-behind_by xs p k h e = ap (λ (m : ℕ). p + 2 + m) e ∙ sym (behind_next xs p h)
 
 -- record n by its place, and no record
 pub nth-at : (xs : List ℕ) (n at : ℕ) → 1 ≤ n → n ≤ count xs → at ≡ place xs (n - 1) → record_at xs at ≡ nth (records xs) n

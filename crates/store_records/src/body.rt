@@ -5,6 +5,7 @@ ghost use Rattle.store_records.specs.Body.{count, place, behind, record_at, used
 use crate::little::read16;
 
 // How many records.
+#[tactic(auto, unfolding(crate::specs::Body::count))]
 pub fn count(body: &[u8]) -> usize
     ensures { (result ≡ count body.now) × (result < 65536) }
 {
@@ -17,15 +18,14 @@ fn place_of(body: &[u8], n: usize) -> usize
     ensures { (result ≡ place body.now n) × (result < 8589934592) }
 {
     let mut at = 2;
-    let mut passed = 0;
-    while passed < n {
+    for _ in 0..n {
         at = at + 2 + read16(body, at);
-        passed += 1;
     }
     at
 }
 
 // The bytes used, which is where the free room begins.
+#[tactic(auto, unfolding(crate::specs::Body::used))]
 pub fn used(body: &[u8]) -> usize
     ensures { (result ≡ used body.now) × (result < 8589934592) }
 {
@@ -36,10 +36,7 @@ pub fn used(body: &[u8]) -> usize
 pub fn place(body: &[u8], n: usize) -> usize
     ensures { result ≡ place body.now (min n 65535) }
 {
-    if 65535 < n {
-        return place_of(body, 65535);
-    }
-    place_of(body, n)
+    place_of(body, n.min(65535))
 }
 
 // The record whose length stands at `at`, as the part of the body that it is.
@@ -53,6 +50,7 @@ pub fn record_at(body: &[u8], at: usize) -> &[u8]
 }
 
 // The place behind that record, where the next one stands; `at` itself past the body's end.
+#[tactic(auto, unfolding(crate::specs::Body::behind))]
 pub fn behind(body: &[u8], at: usize) -> usize
     ensures { result ≡ behind body.now at }
 {
@@ -66,10 +64,7 @@ pub fn behind(body: &[u8], at: usize) -> usize
 pub fn record(body: &[u8], n: usize) -> &[u8]
     ensures { result.now ≡ nth (records body.now) n }
 {
-    if n == 0 {
-        return base::part(body, 0, 0);
-    }
-    if count(body) < n {
+    if n == 0 || count(body) < n {
         return base::part(body, 0, 0);
     }
     record_at(body, place_of(body, n - 1))
@@ -79,16 +74,11 @@ pub fn record(body: &[u8], n: usize) -> &[u8]
 pub fn fits_behind(body: &[u8], at: usize, n: usize) -> bool
     ensures { result ≡ leb (at + 2 + n) (length body.now) }
 {
-    if body.len() < at {
-        return false;
-    }
-    if body.len() - at < 2 {
-        return false;
-    }
-    n <= body.len() - at - 2
+    at <= body.len() && 2 <= body.len() - at && n <= body.len() - at - 2
 }
 
 // Whether an append of n bytes fits.
+#[tactic(auto, unfolding(crate::specs::Body::append_fits))]
 pub fn append_fits(body: &[u8], n: usize) -> bool
     ensures { result ≡ append_fits body.now n }
 {
@@ -96,21 +86,17 @@ pub fn append_fits(body: &[u8], n: usize) -> bool
 }
 
 // Whether a record of 1 to `longest` bytes stands whole at `at`.
+#[tactic(auto, unfolding(crate::specs::Body::ok_at, base::specs::Choice::all_of))]
 fn record_ok(body: &[u8], at: usize, longest: usize) -> bool
     requires { at ≤ length body.now }
     ensures { result ≡ ok_at longest body.now at }
 {
     let k = read16(body, at);
-    if k < 1 {
-        return false;
-    }
-    if longest < k {
-        return false;
-    }
-    2 + k <= body.len() - at
+    1 <= k && k <= longest && 2 + k <= body.len() - at
 }
 
 // Whether a body has at most `most` records, each of 1 to `longest` bytes and whole.
+#[tactic(auto, unfolding(crate::specs::Body::body_ok, base::specs::Choice::all_of))]
 pub fn well_formed(body: &[u8], longest: usize, most: usize) -> bool
     ensures { result ≡ body_ok longest most body.now }
 {
@@ -122,13 +108,11 @@ pub fn well_formed(body: &[u8], longest: usize, most: usize) -> bool
         return false;
     }
     let mut at = 2;
-    let mut i = 0;
-    while i < n {
+    for _ in 0..n {
         if !record_ok(body, at, longest) {
             return false;
         }
         at = at + 2 + read16(body, at);
-        i += 1;
     }
     true
 }

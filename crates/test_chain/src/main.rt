@@ -12,229 +12,105 @@
 // 6, a look at the session: the line is all of its bytes.
 #![tactic(auto)]
 
-ghost use Rattle.std.specs.Prelude.{◌≡◌, length, replicate};
-
 use program_console::result;
+use std::alloc::Global;
 use std::io::Stdout;
 use store_records::little::{read16, read32};
 
 // How many bytes a session has.
 const SESSION: usize = 1054;
 
-// What is left of the input behind a case, how long the card's image and the session are.
-#[derive(Clone, Copy)]
-struct Turn {
-    left: usize,
-    image: usize,
-    session: usize,
+// The card's image and the session that the cases so far have left.
+#[derive(Drop)]
+struct Left {
+    card: Vec<u8>,
+    session: Vec<u8>,
 }
 
-// A case that is torn leaves more than there is, so that the program says so.
-fn torn(s: &[u8]) -> Turn {
-    Turn {
-        left: s.len() + 1,
-        image: 0,
-        session: 0,
-    }
-}
+// Each function here that answers a case is given what stands behind the case's first byte and gives what stands behind the case; none where it is
+// torn, or where memory runs out.
 
-// Opens a session, and writes the line.
-fn open(out: Stdout, certificates: &[u8], kept: &mut [u8]) {
-    let r = malquindo::malquindo_open(certificates, kept);
+// A card.
+fn start<'a>(out: Stdout, alloc: Global, s: &'a [u8], left: &mut Left) -> Option<&'a [u8]> {
+    let (head, s) = s.split_at_checked(64)?;
+    let (image, rest) = s.split_at_checked(read32(head, 60))?;
+    left.card = Vec::from_slice(alloc, image).ok()?;
+    left.session = vec![in alloc; 0; SESSION].ok()?;
+    let r = malquindo::malquindo_open(base::part(head, 0, 60), &mut left.session);
     program_console::number(out, result::refusal(r));
     program_console::end(out);
-}
-
-// A card, by what stands behind the case's first byte.
-fn start(out: Stdout, s: &[u8], card: &mut [u8], kept: &mut [u8]) -> Turn {
-    let bytes = base::part(s, 64, s.len());
-    let n = read32(s, 60);
-    if bytes.len() < n {
-        return torn(s);
-    }
-    if card.len() < n {
-        return torn(s);
-    }
-    if kept.len() < SESSION {
-        return torn(s);
-    }
-    base::put(card, 0, base::part(bytes, 0, n));
-    open(out, base::part(s, 0, 60), &mut kept[..SESSION]);
-    Turn {
-        left: bytes.len() - n,
-        image: n,
-        session: SESSION,
-    }
+    Some(rest)
 }
 
 // Writes the end of a line: a session but for the bytes of its chain.
-fn tell(out: Stdout, kept: &[u8]) {
-    program_console::bytes(out, base::part(kept, 0, 30));
+fn tell(out: Stdout, session: &[u8]) {
+    program_console::bytes(out, base::part(session, 0, 30));
     program_console::end(out);
-}
-
-// Room for a response.
-fn response_room() -> [u8; 4096]
-    ensures { 4096 ≡ length result }
-{
-    [0; 4096]
-}
-
-// Runs a command, and writes the line.
-fn run(out: Stdout, image: &mut [u8], kept: &mut [u8], command: &[u8], response: &mut [u8]) {
-    let r = malquindo::malquindo_command(image, kept, command, response);
-    program_console::number(out, result::refusal(r));
-    program_console::bytes(out, base::part(response, 0, result::length(r)));
-    tell(out, kept);
 }
 
 // A command.
-fn command(
-    out: Stdout,
-    s: &[u8],
-    card: &mut [u8],
-    image: usize,
-    kept: &mut [u8],
-    n: usize,
-) -> Turn {
-    let bytes = base::part(s, 4, s.len());
-    let m = read16(s, 0);
-    let c = read16(s, 2);
-    let mut response = response_room();
-    if bytes.len() < c {
-        return torn(s);
-    }
-    if response.len() < m {
-        return torn(s);
-    }
-    if card.len() < image {
-        return torn(s);
-    }
-    if kept.len() < n {
-        return torn(s);
-    }
-    run(
-        out,
-        &mut card[..image],
-        &mut kept[..n],
-        base::part(bytes, 0, c),
-        &mut response[..m],
-    );
-    Turn {
-        left: bytes.len() - c,
-        image,
-        session: n,
-    }
-}
-
-// Cuts a command, and writes the line.
-fn run_cut(out: Stdout, image: &mut [u8], kept: &[u8], command: &[u8], stores: usize) {
-    let r = malquindo::malquindo_cut(image, kept, command, stores);
+fn command<'a>(out: Stdout, alloc: Global, s: &'a [u8], left: &mut Left) -> Option<&'a [u8]> {
+    let (head, s) = s.split_at_checked(4)?;
+    let (command, rest) = s.split_at_checked(read16(head, 2))?;
+    let mut response = vec![in alloc; 0; read16(head, 0)].ok()?;
+    let r = malquindo::malquindo_command(&mut left.card, &mut left.session, command, &mut response);
     program_console::number(out, result::refusal(r));
-    program_console::field(out, result::stores(r));
-    tell(out, kept);
+    program_console::bytes(out, base::part(&response, 0, result::length(r)));
+    tell(out, &left.session);
+    Some(rest)
 }
 
 // A cut.
-fn cut(out: Stdout, s: &[u8], card: &mut [u8], image: usize, kept: &[u8], n: usize) -> Turn {
-    let bytes = base::part(s, 4, s.len());
-    let c = read16(s, 2);
-    if bytes.len() < c {
-        return torn(s);
-    }
-    if card.len() < image {
-        return torn(s);
-    }
-    run_cut(
-        out,
-        &mut card[..image],
-        base::part(kept, 0, n),
-        base::part(bytes, 0, c),
-        read16(s, 0),
-    );
-    Turn {
-        left: bytes.len() - c,
-        image,
-        session: n,
-    }
+fn cut<'a>(out: Stdout, s: &'a [u8], left: &mut Left) -> Option<&'a [u8]> {
+    let (head, s) = s.split_at_checked(4)?;
+    let (command, rest) = s.split_at_checked(read16(head, 2))?;
+    let r = malquindo::malquindo_cut(&mut left.card, &left.session, command, read16(head, 0));
+    program_console::number(out, result::refusal(r));
+    program_console::field(out, result::stores(r));
+    tell(out, &left.session);
+    Some(rest)
 }
 
-// Room for a session: more than one has, so that a longer buffer is lent, too.
-fn session_room() -> [u8; 2048]
-    ensures { result ≡ replicate 2048 0 }
-{
-    [0; 2048]
-}
-
-// Stores the bytes of a session that are given, and zeros behind them.
-fn keep_session(given: &[u8], kept: &mut [u8]) {
-    let none = session_room();
-    base::put(kept, 0, &none);
-    base::put(kept, 0, given);
-}
-
-// A session.
-fn session(s: &[u8], kept: &mut [u8], image: usize) -> Turn {
-    let bytes = base::part(s, 4, s.len());
-    let n = read16(s, 0);
-    let g = read16(s, 2);
-    if bytes.len() < g {
-        return torn(s);
-    }
-    if kept.len() < n {
-        return torn(s);
-    }
-    keep_session(base::part(bytes, 0, g), kept);
-    Turn {
-        left: bytes.len() - g,
-        image,
-        session: n,
-    }
+// A session. test_sample has the same lines: no public function of program_console
+// can have them, since memory may run out and each has one outcome.
+fn session<'a>(alloc: Global, s: &'a [u8], left: &mut Left) -> Option<&'a [u8]> {
+    let (head, s) = s.split_at_checked(4)?;
+    let (given, rest) = s.split_at_checked(read16(head, 2))?;
+    left.session = Vec::from_slice(alloc, given).ok()?;
+    left.session.resize(read16(head, 0), 0).ok()?;
+    Some(rest)
 }
 
 // A look, at the card's image or at the session.
-fn look(out: Stdout, s: &[u8], title: &[u8], seen: &[u8], image: usize, session: usize) -> Turn {
+fn look(out: Stdout, title: &[u8], seen: &[u8]) {
     program_console::word(out, title);
     program_console::bytes(out, seen);
     program_console::end(out);
-    Turn {
-        left: s.len(),
-        image,
-        session,
-    }
 }
 
 // Answers the case that s starts with.
-fn case(out: Stdout, s: &[u8], card: &mut [u8], i: usize, kept: &mut [u8], n: usize) -> Turn {
-    let rest = base::part(s, 1, s.len());
-    match base::byte(s, 0) {
-        1 => start(out, rest, card, kept),
-        2 => command(out, rest, card, i, kept, n),
-        3 => cut(out, rest, card, i, kept, n),
-        4 => session(rest, kept, i),
-        5 => look(out, rest, b"image", base::part(card, 0, i), i, n),
-        6 => look(out, rest, b"session", base::part(kept, 0, n), i, n),
-        _ => torn(s),
+fn case<'a>(out: Stdout, alloc: Global, s: &'a [u8], left: &mut Left) -> Option<&'a [u8]> {
+    let (kind, rest) = s.split_first()?;
+    match *kind {
+        1 => return start(out, alloc, rest, left),
+        2 => return command(out, alloc, rest, left),
+        3 => return cut(out, rest, left),
+        4 => return session(alloc, rest, left),
+        5 => look(out, b"image", &left.card),
+        6 => look(out, b"session", &left.session),
+        _ => return None,
     }
-}
-
-// Answers the cases of s, up to the first that is torn or unknown.
-fn cases(out: Stdout, s: &[u8], card: &mut [u8], kept: &mut [u8]) {
-    let mut image = 0;
-    let mut session = 0;
-    let mut at = 0;
-    while at < s.len() {
-        let t = case(out, base::part(s, at, s.len()), card, image, kept, session);
-        image = t.image;
-        session = t.session;
-        at = program_console::cases::next(out, s, at, t.left);
-    }
+    Some(rest)
 }
 
 fn main(rt: HostRuntime) {
+    let out = rt.stdout();
+    let alloc = rt.alloc();
     let mut input = program_console::room();
-    let mut card = program_console::room();
-    let mut kept = session_room();
     let n = program_console::read_full(rt.stdin(), &mut input);
-    cases(rt.stdout(), &input[..n], &mut card, &mut kept);
+    let mut left = Left {
+        card: Vec::new(alloc),
+        session: Vec::new(alloc),
+    };
+    program_console::cases::answer_all(out, &input[..n], |s| case(out, alloc, s, &mut left));
 }

@@ -11,24 +11,44 @@ mod rules;
 mod windows;
 mod writing;
 
-ghost use Rattle.std.specs.Prelude.{◌≡◌, ◌≤◌, length, take};
-
+use std::alloc::Global;
 use std::io::Stdout;
-use store_records::little::read32;
 
-// The number that s starts with.
-fn number(s: &[u8]) -> usize {
-    let digits = base::part(s, 1, base::byte(s, 0));
-    read32(digits, 0) + 4294967296 * read32(digits, 4)
+// Writes what was asked and the answer, a number.
+fn tell_number(out: Stdout, title: &[u8], n: usize) {
+    program_console::word(out, title);
+    program_console::field(out, n);
 }
 
-// What stands behind the number that s starts with.
-fn behind(s: &[u8]) -> &[u8] {
-    base::part(s, 1 + base::byte(s, 0), s.len())
+// The same with a yes or a no.
+fn tell_flag(out: Stdout, title: &[u8], yes: bool) {
+    program_console::word(out, title);
+    program_console::flag(out, yes);
+}
+
+// The same with a number, as of how many stores there are in all, and the bytes that were changed.
+fn tell_change(out: Stdout, title: &[u8], n: usize, changed: &[u8]) {
+    tell_number(out, title, n);
+    program_console::bytes(out, changed);
+}
+
+// The same with whether an update was made.
+fn tell_update(out: Stdout, title: &[u8], done: bool, changed: &[u8]) {
+    tell_flag(out, title, done);
+    program_console::bytes(out, changed);
+}
+
+// The number that s starts with, and what stands behind it.
+fn number_at(s: &[u8]) -> Option<(usize, &[u8])> {
+    let (length, s) = s.split_first()?;
+    let (digits, rest) = s.split_at_checked(usize::from(*length))?;
+    let mut number = [0; 8];
+    base::put(&mut number, 0, base::part(digits, 0, 8));
+    Some((usize::from_le_bytes(number), rest))
 }
 
 // Hands a case to the module that knows it. Answers whether one did.
-fn answer(out: Stdout, op: usize, x: usize, y: usize, a: &mut [u8], b: &[u8]) -> bool {
+fn answer(out: Stdout, op: u8, x: usize, y: usize, a: &mut [u8], b: &[u8]) -> bool {
     match op / 10 {
         1 => images::answer(out, op, x, y, a, b),
         2 => body::answer(out, op, x, y, a, b),
@@ -41,75 +61,29 @@ fn answer(out: Stdout, op: usize, x: usize, y: usize, a: &mut [u8], b: &[u8]) ->
     }
 }
 
-// Copies s and then zeros to the start of `copy`, and answers how many bytes that are: none where they do not fit.
-fn load(copy: &mut [u8], s: &[u8], zeros: usize) -> usize
-    ensures within { result ≤ length copy.new }
-    ensures lent { result ≡ length (take result copy.new) }
-{
-    base::put(copy, 0, s);
-    let mut n = s.len();
-    let mut left = zeros;
-    while 0 < left {
-        if copy.len() <= n {
-            return 0;
-        }
-        copy[n] = 0;
-        n += 1;
-        left -= 1;
+// Answers the case that s starts with, and gives what stands behind it; none where it is torn or unknown, or where memory runs out.
+fn case<'a>(out: Stdout, alloc: Global, s: &'a [u8]) -> Option<&'a [u8]> {
+    let (op, s) = s.split_first()?;
+    let (x, s) = number_at(s)?;
+    let (y, s) = number_at(s)?;
+    let (length, s) = number_at(s)?;
+    let (zeros, s) = number_at(s)?;
+    let (others, s) = number_at(s)?;
+    let (a, s) = s.split_at_checked(length)?;
+    let (b, rest) = s.split_at_checked(others)?;
+    let mut copy = Vec::from_slice(alloc, a).ok()?;
+    copy.resize(length.checked_add(zeros)?, 0).ok()?;
+    if !answer(out, *op, x, y, &mut copy, b) {
+        return None;
     }
-    if copy.len() < n {
-        return 0;
-    }
-    n
-}
-
-// Answers the case that s starts with. Answers how many bytes are left behind it: all where it is torn or unknown.
-fn case(out: Stdout, s: &[u8], copy: &mut [u8]) -> usize {
-    let x = base::part(s, 1, s.len());
-    let y = behind(x);
-    let la = behind(y);
-    let zeros = behind(la);
-    let lb = behind(zeros);
-    if lb.len() <= base::byte(lb, 0) {
-        return s.len();
-    }
-    let bytes = behind(lb);
-    let m = number(la);
-    let k = number(lb);
-    if bytes.len() < m {
-        return s.len();
-    }
-    if bytes.len() - m < k {
-        return s.len();
-    }
-    let n = load(copy, base::part(bytes, 0, m), number(zeros));
-    let b = base::part(bytes, m, k);
-    if answer(
-        out,
-        base::byte(s, 0),
-        number(x),
-        number(y),
-        &mut copy[..n],
-        b,
-    ) {
-        program_console::end(out);
-        return bytes.len() - m - k;
-    }
-    s.len()
-}
-
-// Answers the cases of s, up to the first that is torn or unknown.
-fn cases(out: Stdout, s: &[u8], copy: &mut [u8]) {
-    let mut at = 0;
-    while at < s.len() {
-        let left = case(out, base::part(s, at, s.len()), copy);
-        at = program_console::cases::next(out, s, at, left);
-    }
+    program_console::end(out);
+    Some(rest)
 }
 
 fn main(rt: HostRuntime) {
+    let out = rt.stdout();
+    let alloc = rt.alloc();
     let mut input = program_console::room();
-    let mut copy = program_console::room();
     let n = program_console::read_full(rt.stdin(), &mut input);
-    cases(rt.stdout(), &input[..n], &mut copy);
+    program_console::cases::answer_all(out, &input[..n], |s| case(out, alloc, s));
 }

@@ -1,42 +1,30 @@
 // Cases of writer. The number that is written is one of b's bytes, the highest first.
+use crate::{tell_change, tell_number};
 use objects_reader::number::number;
+use objects_writer::{fewest, longest_within};
 use std::io::Stdout;
 
-fn fewest(out: Stdout, n: usize) {
-    program_console::word(out, b"fewest");
-    program_console::field(out, objects_writer::fewest(n));
-}
-
-fn longest_within(out: Stdout, limit: usize, most: usize) {
-    program_console::word(out, b"longest_within");
-    program_console::field(
-        out,
-        objects_writer::longest_within((limit % 65536) as u16, most),
-    );
-}
-
 fn put_head(out: Stdout, body: &mut [u8], at: usize, tag: usize, b: &[u8]) {
-    program_console::word(out, b"put_head");
-    program_console::field(out, objects_writer::put_head(body, at, tag, number(b)));
-    program_console::bytes(out, body);
+    let end = objects_writer::put_head(body, at, tag, number(b));
+    tell_change(out, b"put_head", end, body);
 }
 
 fn put_number(out: Stdout, body: &mut [u8], at: usize, tag: usize, b: &[u8]) {
-    program_console::word(out, b"put_number");
-    program_console::field(
-        out,
-        objects_writer::put_number(body, at, (tag % 256) as u8, number(b)),
-    );
-    program_console::bytes(out, body);
+    let end = objects_writer::put_number(body, at, (tag % 256) as u8, number(b));
+    tell_change(out, b"put_number", end, body);
 }
 
 // Answers a case; whether it is one of these.
-pub(crate) fn answer(out: Stdout, op: usize, x: usize, y: usize, a: &mut [u8], b: &[u8]) -> bool {
+pub(crate) fn answer(out: Stdout, op: u8, x: usize, y: usize, a: &mut [u8], b: &[u8]) -> bool {
     match op {
-        70 => fewest(out, x),
+        70 => tell_number(out, b"fewest", fewest(x)),
         71 => put_head(out, a, x, y, b),
         72 => put_number(out, a, x, y, b),
-        73 => longest_within(out, x, y),
+        73 => tell_number(
+            out,
+            b"longest_within",
+            longest_within((x % 65536) as u16, y),
+        ),
         _ => return false,
     }
     true

@@ -28,252 +28,116 @@
 // Of a session a line has the first 30 bytes (`-` where there are none) and a hash of all.
 #![tactic(auto)]
 
-ghost use Rattle.std.specs.Prelude.{◌≡◌, length, replicate};
-
 use program_console::result;
+use std::alloc::Global;
 use std::io::Stdout;
 use store_records::little::{read16, read32};
 
-// What is left of the input behind a case, how long the card's image and the session are.
-#[derive(Clone, Copy)]
-struct Turn {
-    left: usize,
-    image: usize,
-    session: usize,
+// The card's image and the session that the cases so far have left.
+#[derive(Drop)]
+struct Left {
+    card: Vec<u8>,
+    session: Vec<u8>,
 }
 
-// A case that is torn leaves more than there is, so that the program says so.
-fn torn(s: &[u8]) -> Turn {
-    Turn {
-        left: s.len() + 1,
-        image: 0,
-        session: 0,
-    }
+// Each function here that answers a case is given what stands behind the case's first byte and gives what stands behind the case; none where it is
+// torn, or where memory runs out.
+
+// FNV-1a in 32 bits: the hash of no byte, and the hash h, continued by a byte.
+const FIRST_HASH: u32 = 2166136261;
+
+fn hash_byte(h: u32, byte: u8) -> u32 {
+    (h ^ u32::from(byte)).wrapping_mul(16777619)
 }
 
-// FNV-1a in 32 bits: the hash h, continued by the byte b.
-fn hash_byte(h: u64, b: usize) -> u64 {
-    (h ^ (b as u64)) % 4294967296 * 16777619 % 4294967296
+// Writes a space and the hash of bytes.
+fn tell_hash(out: Stdout, s: &[u8]) {
+    let h = s.iter().copied().fold(FIRST_HASH, hash_byte);
+    program_console::word(out, b" ");
+    program_console::number(out, u64::from(h));
 }
 
-fn hash(s: &[u8]) -> u64 {
-    let mut h: u64 = 2166136261;
-    let mut i = 0;
-    while i < s.len() {
-        h = hash_byte(h, base::byte(s, i));
-        i += 1;
-    }
-    h
+// A run, with its length before it, and what stands behind it.
+fn run_at(s: &[u8]) -> Option<(&[u8], &[u8])> {
+    let (head, s) = s.split_at_checked(4)?;
+    s.split_at_checked(read32(head, 0))
 }
 
-// A new image, by what stands behind the case's first byte.
-fn image(s: &[u8], card: &mut [u8], session: usize) -> Turn {
-    let bytes = base::part(s, 4, s.len());
-    let n = read32(s, 0);
-    if bytes.len() < n {
-        return torn(s);
-    }
-    if card.len() < n {
-        return torn(s);
-    }
-    base::put(card, 0, base::part(bytes, 0, n));
-    Turn {
-        left: bytes.len() - n,
-        image: n,
-        session,
-    }
+// A new image.
+fn image<'a>(alloc: Global, s: &'a [u8], left: &mut Left) -> Option<&'a [u8]> {
+    let (image, rest) = run_at(s)?;
+    left.card = Vec::from_slice(alloc, image).ok()?;
+    Some(rest)
 }
 
-// Room for a session: more than one has, so that longer buffers are lent, too.
-fn session_room() -> [u8; 2048]
-    ensures { result ≡ replicate 2048 0 }
-{
-    [0; 2048]
-}
-
-// Stores the bytes of a session that are given, and zeros behind them.
-fn keep_session(given: &[u8], kept: &mut [u8]) {
-    let none = session_room();
-    base::put(kept, 0, &none);
-    base::put(kept, 0, given);
-}
-
-// New session bytes.
-fn session(s: &[u8], kept: &mut [u8], image: usize) -> Turn {
-    let bytes = base::part(s, 4, s.len());
-    let n = read16(s, 0);
-    let g = read16(s, 2);
-    if bytes.len() < g {
-        return torn(s);
-    }
-    if kept.len() < n {
-        return torn(s);
-    }
-    if n < g {
-        return torn(s);
-    }
-    keep_session(base::part(bytes, 0, g), kept);
-    Turn {
-        left: bytes.len() - g,
-        image,
-        session: n,
-    }
+// New session bytes: those that are given, and zeros behind them. test_chain has the same lines: no public function of program_console
+// can have them, since memory may run out and each has one outcome.
+fn session<'a>(alloc: Global, s: &'a [u8], left: &mut Left) -> Option<&'a [u8]> {
+    let (head, s) = s.split_at_checked(4)?;
+    let (given, rest) = s.split_at_checked(read16(head, 2))?;
+    left.session = Vec::from_slice(alloc, given).ok()?;
+    left.session.resize(read16(head, 0), 0).ok()?;
+    Some(rest)
 }
 
 // Writes a session: most of its bytes are zeros, so the first ones and a hash tell it.
-fn tell_session(out: Stdout, kept: &[u8]) {
-    program_console::bytes(out, base::part(kept, 0, 30));
-    program_console::word(out, b" ");
-    program_console::number(out, hash(kept));
-}
-
-// The line of an opening.
-fn open(out: Stdout, rights: &[u8], kept: &mut [u8]) {
-    program_console::number(out, malquindo::malquindo_open(rights, kept));
-    tell_session(out, kept);
-    program_console::end(out);
+fn tell_session(out: Stdout, session: &[u8]) {
+    program_console::bytes(out, base::part(session, 0, 30));
+    tell_hash(out, session);
 }
 
 // An opening.
-fn opening(out: Stdout, s: &[u8], kept: &mut [u8], image: usize, n: usize) -> Turn {
-    let bytes = base::part(s, 2, s.len());
-    let m = read16(s, 0);
-    if bytes.len() < m {
-        return torn(s);
-    }
-    if kept.len() < n {
-        return torn(s);
-    }
-    open(out, base::part(bytes, 0, m), &mut kept[..n]);
-    Turn {
-        left: bytes.len() - m,
-        image,
-        session: n,
-    }
-}
-
-fn filled() -> [u8; 4096]
-    ensures { 4096 ≡ length result }
-{
-    [0xA5; 4096]
-}
-
-// The line of a command.
-fn run(out: Stdout, image: &mut [u8], kept: &mut [u8], command: &[u8], response: &mut [u8]) {
-    let r = malquindo::malquindo_command(image, kept, command, response);
-    program_console::number(out, r);
-    program_console::bytes(out, base::part(response, 0, result::length(r)));
-    tell_session(out, kept);
-    program_console::word(out, b" ");
-    program_console::number(out, hash(image));
-    program_console::word(out, b" ");
-    program_console::number(out, hash(response));
+fn opening<'a>(out: Stdout, s: &'a [u8], left: &mut Left) -> Option<&'a [u8]> {
+    let (head, s) = s.split_at_checked(2)?;
+    let (rights, rest) = s.split_at_checked(read16(head, 0))?;
+    program_console::number(out, malquindo::malquindo_open(rights, &mut left.session));
+    tell_session(out, &left.session);
     program_console::end(out);
+    Some(rest)
 }
 
 // A command.
-fn command(
-    out: Stdout,
-    s: &[u8],
-    card: &mut [u8],
-    image: usize,
-    kept: &mut [u8],
-    n: usize,
-) -> Turn {
-    let bytes = base::part(s, 4, s.len());
-    let m = read16(s, 0);
-    let c = read16(s, 2);
-    let mut response = filled();
-    if bytes.len() < c {
-        return torn(s);
-    }
-    if response.len() < m {
-        return torn(s);
-    }
-    if card.len() < image {
-        return torn(s);
-    }
-    if kept.len() < n {
-        return torn(s);
-    }
-    run(
-        out,
-        &mut card[..image],
-        &mut kept[..n],
-        base::part(bytes, 0, c),
-        &mut response[..m],
-    );
-    Turn {
-        left: bytes.len() - c,
-        image,
-        session: n,
-    }
-}
-
-// A target for a move.
-fn fresh() -> [u8; 262144]
-    ensures { 262144 ≡ length result }
-{
-    [0xA5; 262144]
-}
-
-// The line of a move. Answers how long the card's image is then.
-fn move_to(out: Stdout, card: &mut [u8], image: usize, list: &[u8], target: &mut [u8]) -> usize {
-    let r = malquindo::malquindo_move(base::part(card, 0, image), list, target);
+fn command<'a>(out: Stdout, alloc: Global, s: &'a [u8], left: &mut Left) -> Option<&'a [u8]> {
+    let (head, s) = s.split_at_checked(4)?;
+    let (command, rest) = s.split_at_checked(read16(head, 2))?;
+    let mut response = vec![in alloc; 0xA5; read16(head, 0)].ok()?;
+    let r = malquindo::malquindo_command(&mut left.card, &mut left.session, command, &mut response);
     program_console::number(out, r);
-    program_console::word(out, b" ");
-    program_console::number(out, hash(target));
+    program_console::bytes(out, base::part(&response, 0, result::length(r)));
+    tell_session(out, &left.session);
+    tell_hash(out, &left.card);
+    tell_hash(out, &response);
     program_console::end(out);
-    if result::refusal(r) != 0 {
-        return image;
-    }
-    let n = result::moved_length(r);
-    base::put(card, 0, base::part(target, 0, n));
-    n
+    Some(rest)
 }
 
 // A move.
-fn moved(out: Stdout, s: &[u8], card: &mut [u8], image: usize, session: usize) -> Turn {
-    let bytes = base::part(s, 6, s.len());
-    let m = read32(s, 0);
-    let n = read16(s, 4);
-    let mut target = fresh();
-    if bytes.len() < n {
-        return torn(s);
-    }
-    if target.len() < m {
-        return torn(s);
-    }
-    let now = move_to(out, card, image, base::part(bytes, 0, n), &mut target[..m]);
-    Turn {
-        left: bytes.len() - n,
-        image: now,
-        session,
-    }
-}
-
-// The line of a file.
-fn tell_file(out: Stdout, image: &[u8], kind: u16) {
-    let r = malquindo::malquindo_file(image, kind);
-    let body = base::part(image, result::file_place(r), result::file_length(r));
+fn moved<'a>(out: Stdout, alloc: Global, s: &'a [u8], left: &mut Left) -> Option<&'a [u8]> {
+    let (head, s) = s.split_at_checked(6)?;
+    let (list, rest) = s.split_at_checked(read16(head, 4))?;
+    let mut target = vec![in alloc; 0xA5; read32(head, 0)].ok()?;
+    let r = malquindo::malquindo_move(&left.card, list, &mut target);
     program_console::number(out, r);
-    program_console::word(out, b" ");
-    program_console::number(out, hash(body));
+    tell_hash(out, &target);
     program_console::end(out);
+    if result::refusal(r) == 0 {
+        target.truncate(result::moved_length(r));
+        left.card = target;
+    }
+    Some(rest)
 }
 
 // A file.
-fn file(out: Stdout, s: &[u8], card: &[u8], image: usize, session: usize) -> Turn {
-    if s.len() < 2 {
-        return torn(s);
-    }
-    let kind = read16(s, 0);
-    tell_file(out, base::part(card, 0, image), (kind % 65536) as u16);
-    Turn {
-        left: s.len() - 2,
-        image,
-        session,
-    }
+fn file<'a>(out: Stdout, s: &'a [u8], card: &[u8]) -> Option<&'a [u8]> {
+    let (kind, rest) = s.split_first_chunk()?;
+    let r = malquindo::malquindo_file(card, u16::from_le_bytes(*kind));
+    program_console::number(out, r);
+    tell_hash(
+        out,
+        base::part(card, result::file_place(r), result::file_length(r)),
+    );
+    program_console::end(out);
+    Some(rest)
 }
 
 // The line of a certificate.
@@ -286,77 +150,33 @@ fn tell_certificate<'a>(out: Stdout, card: &'a [u8], desk: &'a [u8], reference: 
     program_console::end(out);
 }
 
-// The lines of the references from the first to the last.
-fn tell_certificates<'a>(out: Stdout, card: &'a [u8], desk: &'a [u8], first: usize, last: usize) {
-    for n in first..=last {
-        tell_certificate(out, card, desk, (n % 256) as u8);
+// Certificates: a line for each reference from the first to the last.
+fn certificates(out: Stdout, s: &[u8]) -> Option<&[u8]> {
+    let (references, s) = s.split_first_chunk::<2>()?;
+    let [first, last] = *references;
+    let (card, s) = run_at(s)?;
+    let (desk, rest) = run_at(s)?;
+    for reference in first..=last {
+        tell_certificate(out, card, desk, reference);
     }
+    Some(rest)
 }
 
-// Certificates.
-fn certificates(out: Stdout, s: &[u8], image: usize, session: usize) -> Turn {
-    let n = read32(s, 2);
-    let card = base::part(s, 6, n);
-    let rest = base::part(s, 6 + n, s.len());
-    let m = read32(rest, 0);
-    let desk = base::part(rest, 4, m);
-    if rest.len() < 4 {
-        return torn(s);
-    }
-    if desk.len() < m {
-        return torn(s);
-    }
-    tell_certificates(out, card, desk, base::byte(s, 0), base::byte(s, 1));
-    Turn {
-        left: base::natural::saturating_sub(rest.len(), 4 + m),
-        image,
-        session,
-    }
+// The number of 8 bytes that s starts with, and what stands behind it.
+fn number_at(s: &[u8]) -> Option<(usize, &[u8])> {
+    let (number, rest) = s.split_first_chunk()?;
+    Some((usize::from_le_bytes(*number), rest))
 }
 
-// The number of 8 bytes that s starts with.
-fn read64(s: &[u8]) -> usize {
-    read32(s, 0) % 4294967296 + read32(s, 4) % 4294967296 * 4294967296
-}
-
-// Room for a list: as many entries as the comparison makes at most.
-fn no_places() -> [u32; 512]
-    ensures { 512 ≡ length result }
-{
-    [0; 512]
-}
-
-// Fills a list from its bytes.
-fn read_places(s: &[u8], places: &mut [u32]) {
-    let mut i = 0;
-    while i < places.len() {
-        places[i] = (read32(s, 4 * i) % 4294967296) as u32;
-        i += 1;
-    }
-}
-
-// The hash h, continued by the four bytes of the place p.
-fn hash_place(h: u64, p: usize) -> u64 {
-    let low = hash_byte(hash_byte(h, p % 256), p / 256 % 256);
-    hash_byte(hash_byte(low, p / 65536 % 256), p / 16777216 % 256)
-}
-
-// The hash of a list's bytes.
-fn hash_places(places: &[u32]) -> u64 {
-    let mut h: u64 = 2166136261;
-    let mut i = 0;
-    while i < places.len() {
-        h = hash_place(h, places[i] as usize);
-        i += 1;
-    }
-    h
-}
-
-// The line of a list that is built or extended.
+// The line of a list that is built, extended or filled: the result, and the hash of the list's bytes.
 fn tell_places(out: Stdout, r: u64, places: &[u32]) {
     program_console::number(out, r);
     program_console::word(out, b" ");
-    program_console::number(out, hash_places(places));
+    let h = places
+        .iter()
+        .flat_map(|p| p.to_le_bytes())
+        .fold(FIRST_HASH, hash_byte);
+    program_console::number(out, u64::from(h));
     program_console::end(out);
 }
 
@@ -367,19 +187,16 @@ fn tell_record(out: Stdout, body: &[u8], places: &[u32], number: usize) {
     program_console::end(out);
 }
 
-// The lines of the numbers from the first to the last.
-fn tell_records(out: Stdout, body: &[u8], places: &[u32], first: usize, last: usize) {
-    for n in first..=last {
-        tell_record(out, body, places, n);
-    }
-}
-
-// What is asked of an index, by what stands before its list, and the list's bytes.
-fn ask_index(out: Stdout, head: &[u8], list: &[u8], body: &[u8], places: &mut [u32]) {
-    read_places(list, places);
-    let kind = (read16(head, 1) % 65536) as u16;
-    let first = read64(base::part(head, 3, 8));
-    match base::byte(head, 0) {
+// What an index is asked: `asked` says what, the numbers from the first to the last are read.
+fn ask_index(
+    out: Stdout,
+    asked: u8,
+    kind: u16,
+    (first, last): (usize, usize),
+    body: &[u8],
+    places: &mut [u32],
+) {
+    match asked {
         0 => {
             let r = malquindo::malquindo_index_build(kind, body, places);
             tell_places(out, r, places);
@@ -388,195 +205,106 @@ fn ask_index(out: Stdout, head: &[u8], list: &[u8], body: &[u8], places: &mut [u
             let r = malquindo::malquindo_index_extend(kind, body, places, first);
             tell_places(out, r, places);
         }
-        _ => tell_records(out, body, places, first, read64(base::part(head, 11, 8))),
+        _ => {
+            for n in first..=last {
+                tell_record(out, body, places, n);
+            }
+        }
     }
 }
 
 // An index.
-fn index(out: Stdout, s: &[u8], image: usize, session: usize) -> Turn {
-    let n = read16(s, 19);
-    let rest = base::part(s, 21 + 4 * n, s.len());
-    let m = read32(rest, 0);
-    let body = base::part(rest, 4, m);
-    let mut places = no_places();
-    if rest.len() < 4 {
-        return torn(s);
-    }
-    if body.len() < m {
-        return torn(s);
-    }
-    if places.len() < n {
-        return torn(s);
-    }
-    ask_index(out, s, base::part(s, 21, 4 * n), body, &mut places[..n]);
-    Turn {
-        left: base::natural::saturating_sub(rest.len(), 4 + m),
-        image,
-        session,
-    }
-}
-
-// A list for the places of a stamp.
-fn filled_places() -> [u32; 512]
-    ensures { 512 ≡ length result }
-{
-    [0xA5A5A5A5; 512]
-}
-
-// The line of a stamp.
-fn tell_stamp(out: Stdout, record: &[u8], places: &mut [u32]) {
-    let r = malquindo::malquindo_stamp_read(record, places);
-    tell_places(out, r, places);
+fn index<'a>(out: Stdout, alloc: Global, s: &'a [u8]) -> Option<&'a [u8]> {
+    let (asked, s) = s.split_first()?;
+    let (kind, s) = s.split_first_chunk()?;
+    let (first, s) = number_at(s)?;
+    let (last, s) = number_at(s)?;
+    let (count, s) = s.split_at_checked(2)?;
+    let (list, s) = s.split_at_checked(4 * read16(count, 0))?;
+    let (body, rest) = run_at(s)?;
+    let (entries, _) = list.as_chunks();
+    let mut places = entries
+        .iter()
+        .map(|entry| u32::from_le_bytes(*entry))
+        .collect::<Vec<u32>>(alloc)
+        .ok()?;
+    let kind = u16::from_le_bytes(*kind);
+    ask_index(out, *asked, kind, (first, last), body, &mut places);
+    Some(rest)
 }
 
 // A stamp.
-fn stamp(out: Stdout, s: &[u8], image: usize, session: usize) -> Turn {
-    let n = read16(s, 0);
-    let m = read32(s, 2);
-    let record = base::part(s, 6, m);
-    let mut places = filled_places();
-    if s.len() < 6 {
-        return torn(s);
-    }
-    if record.len() < m {
-        return torn(s);
-    }
-    if places.len() < n {
-        return torn(s);
-    }
-    tell_stamp(out, record, &mut places[..n]);
-    Turn {
-        left: base::natural::saturating_sub(s.len(), 6 + m),
-        image,
-        session,
-    }
-}
-
-// The line of the rights of three runs.
-fn tell_rights(out: Stdout, first: &[u8], second: &[u8], third: &[u8], rights: &mut [u8]) {
-    program_console::number(
-        out,
-        malquindo::malquindo_rights(first, second, third, rights),
-    );
-    program_console::bytes(out, rights);
-    program_console::end(out);
-}
-
-// A run, with its length before it, where s has all of it.
-fn run_at(s: &[u8]) -> &[u8] {
-    base::part(s, 4, read32(s, 0))
-}
-
-// What stands behind it.
-fn behind_run(s: &[u8]) -> &[u8] {
-    base::part(s, 4 + read32(s, 0), s.len())
+fn stamp<'a>(out: Stdout, alloc: Global, s: &'a [u8]) -> Option<&'a [u8]> {
+    let (count, s) = s.split_at_checked(2)?;
+    let (record, rest) = run_at(s)?;
+    let mut places = vec![in alloc; 0xA5A5A5A5; read16(count, 0)].ok()?;
+    let r = malquindo::malquindo_stamp_read(record, &mut places);
+    tell_places(out, r, &places);
+    Some(rest)
 }
 
 // The rights of certificates.
-fn rights(out: Stdout, s: &[u8], image: usize, session: usize) -> Turn {
-    let n = read16(s, 0);
-    let first = base::part(s, 2, s.len());
-    let second = behind_run(first);
-    let third = behind_run(second);
-    let mut buffer = filled();
-    if third.len() < 4 {
-        return torn(s);
-    }
-    if third.len() - 4 < read32(third, 0) {
-        return torn(s);
-    }
-    if buffer.len() < n {
-        return torn(s);
-    }
-    tell_rights(
+fn rights<'a>(out: Stdout, alloc: Global, s: &'a [u8]) -> Option<&'a [u8]> {
+    let (length, s) = s.split_at_checked(2)?;
+    let (first, s) = run_at(s)?;
+    let (second, s) = run_at(s)?;
+    let (third, rest) = run_at(s)?;
+    let mut buffer = vec![in alloc; 0xA5; read16(length, 0)].ok()?;
+    program_console::number(
         out,
-        run_at(first),
-        run_at(second),
-        run_at(third),
-        &mut buffer[..n],
+        malquindo::malquindo_rights(first, second, third, &mut buffer),
     );
-    Turn {
-        left: behind_run(third).len(),
-        image,
-        session,
-    }
-}
-
-// The line of a cut.
-fn run_cut(out: Stdout, image: &mut [u8], kept: &[u8], command: &[u8], stores: usize) {
-    program_console::number(out, malquindo::malquindo_cut(image, kept, command, stores));
-    program_console::word(out, b" ");
-    program_console::number(out, hash(image));
+    program_console::bytes(out, &buffer);
     program_console::end(out);
+    Some(rest)
 }
 
 // A cut.
-fn cut(out: Stdout, s: &[u8], card: &mut [u8], image: usize, kept: &[u8], n: usize) -> Turn {
-    let bytes = base::part(s, 10, s.len());
-    let c = read16(s, 8);
-    if bytes.len() < c {
-        return torn(s);
-    }
-    if card.len() < image {
-        return torn(s);
-    }
-    run_cut(
+fn cut<'a>(out: Stdout, s: &'a [u8], left: &mut Left) -> Option<&'a [u8]> {
+    let (stores, s) = number_at(s)?;
+    let (length, s) = s.split_at_checked(2)?;
+    let (command, rest) = s.split_at_checked(read16(length, 0))?;
+    program_console::number(
         out,
-        &mut card[..image],
-        base::part(kept, 0, n),
-        base::part(bytes, 0, c),
-        read64(s),
+        malquindo::malquindo_cut(&mut left.card, &left.session, command, stores),
     );
-    Turn {
-        left: bytes.len() - c,
-        image,
-        session: n,
-    }
+    tell_hash(out, &left.card);
+    program_console::end(out);
+    Some(rest)
 }
 
 // Answers the case that s starts with.
-fn case(out: Stdout, s: &[u8], card: &mut [u8], i: usize, kept: &mut [u8], n: usize) -> Turn {
-    let rest = base::part(s, 1, s.len());
-    match base::byte(s, 0) {
-        1 => image(rest, card, n),
-        2 => session(rest, kept, i),
-        3 => opening(out, rest, kept, i, n),
-        4 => command(out, rest, card, i, kept, n),
-        5 => moved(out, rest, card, i, n),
-        6 => file(out, rest, card, i, n),
-        7 => certificates(out, rest, i, n),
-        8 => index(out, rest, i, n),
-        9 => stamp(out, rest, i, n),
-        10 => rights(out, rest, i, n),
-        11 => cut(out, rest, card, i, kept, n),
-        _ => torn(s),
+fn case<'a>(out: Stdout, alloc: Global, s: &'a [u8], left: &mut Left) -> Option<&'a [u8]> {
+    let (kind, rest) = s.split_first()?;
+    match *kind {
+        1 => image(alloc, rest, left),
+        2 => session(alloc, rest, left),
+        3 => opening(out, rest, left),
+        4 => command(out, alloc, rest, left),
+        5 => moved(out, alloc, rest, left),
+        6 => file(out, rest, &left.card),
+        7 => certificates(out, rest),
+        8 => index(out, alloc, rest),
+        9 => stamp(out, alloc, rest),
+        10 => rights(out, alloc, rest),
+        11 => cut(out, rest, left),
+        _ => None,
     }
 }
 
-// Answers the cases of s, up to the first that is torn or unknown.
-fn cases(out: Stdout, s: &[u8], card: &mut [u8], kept: &mut [u8]) {
-    let mut image = 0;
-    let mut session = 0;
-    let mut at = 0;
-    while at < s.len() {
-        let t = case(out, base::part(s, at, s.len()), card, image, kept, session);
-        image = t.image;
-        session = t.session;
-        at = program_console::cases::next(out, s, at, t.left);
-    }
-}
-
-// Room for all input.
-fn input_room() -> [u8; 786432]
-    ensures { result ≡ replicate 786432 0 }
-{
+// Room for all input: the sample is longer than the room that programs share.
+fn input_room() -> [u8; 786432] {
     [0; 786432]
 }
 
 fn main(rt: HostRuntime) {
+    let out = rt.stdout();
+    let alloc = rt.alloc();
     let mut input = input_room();
-    let mut card = program_console::room();
-    let mut kept = session_room();
     let n = program_console::read_full(rt.stdin(), &mut input);
-    cases(rt.stdout(), &input[..n], &mut card, &mut kept);
+    let mut left = Left {
+        card: Vec::new(alloc),
+        session: Vec::new(alloc),
+    };
+    program_console::cases::answer_all(out, &input[..n], |s| case(out, alloc, s, &mut left));
 }

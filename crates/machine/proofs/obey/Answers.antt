@@ -2,8 +2,8 @@
 use Rattle.machine.proofs.Accepting.{slice_bytes, obey_allowed, obey_done, obey_ended}
 use Rattle.machine.proofs.obey.Goals as goal
 
-pub apply-a-requires : goal.apply-a-requires
-apply-a-requires c = obey_allowed _ _ _ _ _ _ c.requires c.join.ensures c.joined-data.ensures c.by_class-d.ensures (slice_bytes _ (λ i. (c.type_inv.data i).fits))
+pub answer-a-requires : goal.answer-a-requires
+answer-a-requires c = obey_allowed _ _ _ _ _ _ c.requires c.join.ensures c.joined-data.ensures c.by_class-d.ensures (slice_bytes _ (λ i. (c.type_inv.data i).fits))
 
 pub returns : goal.returns
-returns c = (obey_done _ _ _ _ _ _ c.requires c.join.ensures c.joined-data.ensures _ c.by_class-d.ensures c.apply-a.ensures, obey_ended _ c.args.s _ _ _ _ c.requires c.join.ensures c.end.ensures)
+returns c = (obey_done _ _ _ _ _ _ c.requires c.join.ensures c.joined-data.ensures _ c.by_class-d.ensures c.answer-a.ensures, obey_ended _ c.args.s _ _ _ _ c.requires c.join.ensures c.end.ensures)

@@ -10,7 +10,7 @@ returns-then-n-b c = c.framed.ensures ∙ shape_case3_short _ _ (omega arith) (o
 pub returns-then-n-b-2 : goal.returns-then-n-b-2
 returns-then-n-b-2 c =
     c.framed-then-n-b-2.ensures
-    ∙ shape_case4_short _ _ (omega arith) (omega arith) (omega arith) (omega arith) _ _ c.byte-le.ensures.0
+    ∙ shape_case4_short _ _ (omega arith) (omega arith) (omega arith) (omega arith) _ _ c.byte.ensures.0
     c.or_most.ensures (omega arith)
 
 pub returns : goal.returns

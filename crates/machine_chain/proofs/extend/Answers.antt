@@ -4,4 +4,4 @@ use mathlib.Core.Path.{refl}
 use Rattle.machine_chain.proofs.extend.Goals as goal
 
 pub returns : goal.returns
-returns c = extend-is _ _ _ c.read16-n.ensures.0 refl c.put.ensures.1 c.put-2.ensures.1
+returns c = extend-is _ _ _ c.read16-n.ensures.0 refl c.put.ensures.1 (rw c.to_le_bytes.ensures at c.put-2.ensures.1)

@@ -1,23 +1,16 @@
-use mathlib.Core.Path.{refl, ap, ◌∙◌}
+use mathlib.Core.Path.{ap, ◌∙◌}
+use Prim.Native.Nat.{◌+◌, ◌-◌}
 use native.Mathlib.Omega.{arith}
-use Rattle.machine_chain.specs.Layout.{zero_run}
-use Rattle.machine_chain.proofs.Unused.{zeros_up, zeros-same}
+use lib.Bits.{bit_or}
+use lib.Dec.{eqb}
+use lib.ListN.{length-take, length-drop}
+use Rattle.base.proofs.Parts.{get_d_part}
+use Rattle.machine_chain.proofs.Unused.{zeros_more}
 use Rattle.machine_chain.proofs.zero_run.Goals as goal
-use Rattle.machine_chain.proofs.zero_run.Goals.{then-most-b, else-most-b}
 
-pub loop-i-init : goal.loop-i-init
-unfolding zero_run
-loop-i-init c = (omega arith, refl)
-
-pub loop-i-preserved : goal.loop-i-preserved
-loop-i-preserved c =
-    let l = c.loop-i in (
-      omega arith,
-      elim c.if-most-b.branch [
-        | then-most-b w ↦ zeros_up _ _ _ _ l.invariant.1 _ w.if-most-b.true w.most-is
-        | else-most-b w ↦ zeros-same _ _ _ _ l.invariant.1 _ w.if-most-b.false w.most-is
-      ],
-    )
-
-pub returns : goal.returns
-returns c = let l = c.loop-i in l.invariant.1 ∙ ap (zero_run _ _) (omega (arith, l.invariant.0))
+pub loop-b-preserved : goal.loop-b-preserved
+loop-b-preserved c =
+    let s = c.args.chain.now in
+    let test = simp (length-take, length-drop) at c.loop-b-test.true in
+    let item = get_d_part s c.args.a (c.args.a + c.args.n - c.args.a) c.loop-b.b-index (omega arith) in
+    ap (λ m. eqb m 0) (ap (bit_or c.loop-b.bits) item) ∙ zeros_more s c.args.a _ _ c.loop-b.invariant

@@ -12,4 +12,4 @@ returns c =
     c.min.ensures
     ∙ ap₂ min
     (c.saturating_sub-left.ensures ∙ ap (λ (x : ℕ). a.most - x) c.count.ensures.0)
-    (c.times.ensures ∙ ap (λ (x : ℕ). x / (2 + a.longest)) (c.saturating_sub.ensures ∙ ap (λ (x : ℕ). length a.body.now - x) c.used.ensures.0))
+    (c.times.ensures ∙ ap (λ (x : ℕ). x / (2 + a.longest)) (c.saturating_sub-free.ensures ∙ ap (λ (x : ℕ). length a.body.now - x) c.used.ensures.0))

@@ -2,14 +2,8 @@
 use mathlib.Core.Path.{◌∙◌}
 use native.Mathlib.Omega.{arith}
 use Rattle.machine_rights.proofs.Table23.{biometrics_bit-inside}
-use Rattle.machine_rights.proofs.Answers.{file-low, file-high, file-is}
+use Rattle.machine_rights.proofs.Answers.{file-is}
 use Rattle.machine_rights.proofs.may_biometrics.Goals as goal
-
-pub returns-then-n-lt1 : goal.returns-then-n-lt1
-returns-then-n-lt1 c = file-low _ _ _ c.if-n-lt1.true
-
-pub returns-then-n-gt64 : goal.returns-then-n-gt64
-returns-then-n-gt64 c = file-high _ _ _ c.if-n-gt64.true
 
 pub biometrics_byte-requires : goal.biometrics_byte-requires
 biometrics_byte-requires c = (biometrics_bit-inside _ _ _ c.biometrics_bit-b.ensures (omega arith)).0

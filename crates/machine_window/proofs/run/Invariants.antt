@@ -1,12 +1,6 @@
--- `run` meets its contract. Invariant: the first i bytes of the string stand from p on. A turn looks at one byte more. Measure: the bytes
--- of the string that are left.
-use Prim.Native.Nat.{◌≤◌, ◌-◌}
-use lib.ListN.{length}
+-- `run` meets its contract. Invariant: the first i bytes of the string stand from p on. A turn looks at one byte more.
 use Rattle.machine_window.specs.Loops.{Stand}
 use Rattle.machine_window.proofs.run.Given as goal
 
 abbrev pub invariant-loop-i : goal.invariant-loop-i
-invariant-loop-i l = (l.q ≤ l.i) × (l.i ≤ length l.text) × Stand l.w l.text l.p l.i
-
-abbrev pub decreases-loop-i : goal.decreases-loop-i
-decreases-loop-i l = length l.text - l.i
+invariant-loop-i l = Stand l.w l.text l.p l.i

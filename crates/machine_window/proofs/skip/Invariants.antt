@@ -1,5 +1,5 @@
--- `skip` meets its contract. Invariant: the string stands at none of the places before p. A turn passes the sixteen that `clear` has seen
--- (`clear_join`). Measure: the places from p on.
+-- `skip` meets its contract. Invariant: the string stands at none of the places before p. A turn passes the sixteen that `clear` has seen.
+-- Measure: the places from p on.
 use Prim.Native.Nat.{◌+◌, ◌-◌, ◌≤◌}
 use lib.ListN.{length}
 use Rattle.machine_window.specs.Loops.{Clear}

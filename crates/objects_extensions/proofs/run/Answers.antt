@@ -1,43 +1,34 @@
-use mathlib.Core.Path.{refl}
+use mathlib.Core.Path.{refl, sym, ◌∙◌}
 use native.Mathlib.Omega.{arith}
-use Rattle.objects_extensions.proofs.Steps.{gave, walk_start, walk_end, walk_tag, walk_length, walk_within, walk_less, walk_stop, walk_next}
+use borrow.Author.Tests.{eqb-true, eqb-false}
+use Rattle.std.proofs.lemmas.Result.{err_from_is_err_and}
+use Rattle.objects_extensions.proofs.Steps.{gave, walk_start, walk_end, walk_bad, walk_within, walk_less, walk_stop, walk_next}
 use Rattle.objects_extensions.proofs.run.Goals as goal
 
-pub loop-at-init : goal.loop-at-init
-loop-at-init c = (omega arith, refl, walk_start _ _)
+pub loop-rest-init : goal.loop-rest-init
+loop-rest-init c = (refl, omega arith, walk_start _ _)
+
+pub returns-in_default : goal.returns-in_default
+returns-in_default c = gave (walk_bad c.loop-rest.invariant.2 (eqb-false _ _ (sym c.is_empty.ensures ∙ c.loop-rest-test.true)) c.header.ensures c.in_default.is)
 
 pub overflow_add-start : goal.overflow_add-start
-overflow_add-start c = let h = walk_within c.loop-at.invariant.2 c.loop-at-test.true refl c.header-h.ensures c.in-Body.is in omega arith
+overflow_add-start c = let h = walk_within c.loop-rest.invariant.2 (eqb-false _ _ (sym c.is_empty.ensures ∙ c.loop-rest-test.true)) c.header.ensures c.in-Ok.is in omega arith
 
-pub returns-then-not-is_whole : goal.returns-then-not-is_whole
-returns-then-not-is_whole c = gave (walk_stop c.loop-at.invariant.2 c.loop-at-test.true refl c.header-h.ensures c.in-Body.is c.part.ensures c.extension-r.ensures c.is_whole.ensures c.if-not-is_whole.true-raw)
+pub split_at-requires : goal.split_at-requires
+split_at-requires c = walk_within c.loop-rest.invariant.2 (eqb-false _ _ (sym c.is_empty.ensures ∙ c.loop-rest-test.true)) c.header.ensures c.in-Ok.is
 
-pub overflow_add-at : goal.overflow_add-at
-overflow_add-at c = let h = walk_within c.loop-at.invariant.2 c.loop-at-test.true refl c.header-h.ensures c.in-Body.is in omega arith
+pub returns-in_err-extension : goal.returns-in_err-extension
+returns-in_err-extension c =
+    let p = err_from_is_err_and c.from_residual.result c.from_residual.ensures.1 in
+    rw (p.1, p.2) (gave (walk_stop c.loop-rest.invariant.2 (eqb-false _ _ (sym c.is_empty.ensures ∙ c.loop-rest-test.true)) c.header.ensures c.in-Ok.is c.split_at.ensures.front c.extension.ensures c.in_err-extension.was))
 
-pub overflow_add-at-in-Body : goal.overflow_add-at-in-Body
-overflow_add-at-in-Body c = let h = walk_within c.loop-at.invariant.2 c.loop-at-test.true refl c.header-h.ensures c.in-Body.is in omega arith
+pub loop-rest-smaller : goal.loop-rest-smaller
+loop-rest-smaller c = walk_less c.loop-rest.invariant.2 (eqb-false _ _ (sym c.is_empty.ensures ∙ c.loop-rest-test.true)) c.header.ensures c.in-Ok.is c.split_at.ensures.back
 
-pub loop-at-smaller : goal.loop-at-smaller
-loop-at-smaller c = walk_less c.loop-at.invariant.2 c.loop-at-test.true refl c.header-h.ensures c.in-Body.is
-
-pub loop-at-preserved : goal.loop-at-preserved
-loop-at-preserved c = (walk_within c.loop-at.invariant.2 c.loop-at-test.true refl c.header-h.ensures c.in-Body.is, omega arith, walk_next c.loop-at.invariant.2 c.loop-at-test.true refl c.header-h.ensures c.in-Body.is c.part.ensures c.extension-r.ensures c.is_whole.ensures c.if-not-is_whole.false-raw)
-
-pub shape_of-c-in-NoTag : goal.shape_of-c-in-NoTag
-shape_of-c-in-NoTag c = c.loop-at.invariant.1
-
-pub returns-in-NoTag : goal.returns-in-NoTag
-returns-in-NoTag c = gave (walk_tag c.loop-at.invariant.2 c.loop-at-test.true refl c.header-h.ensures c.in-NoTag.is)
-
-pub shape_of-c-in-NoLength : goal.shape_of-c-in-NoLength
-shape_of-c-in-NoLength c = c.loop-at.invariant.1
-
-pub returns-in-NoLength : goal.returns-in-NoLength
-returns-in-NoLength c = gave (walk_length c.loop-at.invariant.2 c.loop-at-test.true refl c.header-h.ensures c.in-NoLength.is)
-
-pub shape_of-c : goal.shape_of-c
-shape_of-c c = c.loop-at.invariant.1
+pub loop-rest-preserved : goal.loop-rest-preserved
+loop-rest-preserved c =
+    let less = walk_less c.loop-rest.invariant.2 (eqb-false _ _ (sym c.is_empty.ensures ∙ c.loop-rest-test.true)) c.header.ensures c.in-Ok.is c.split_at.ensures.back in
+    (c.extension.auto.c ∙ c.loop-rest.invariant.0, omega arith, walk_next c.loop-rest.invariant.2 (eqb-false _ _ (sym c.is_empty.ensures ∙ c.loop-rest-test.true)) c.header.ensures c.in-Ok.is c.split_at.ensures.front c.extension.ensures c.in_ok-extension.was c.split_at.ensures.back)
 
 pub returns : goal.returns
-returns c = gave (walk_end c.loop-at.invariant.2 (omega arith))
+returns c = gave (walk_end c.loop-rest.invariant.2 (eqb-true _ _ (sym c.is_empty.ensures ∙ c.loop-rest-test.false)))

@@ -13,17 +13,17 @@ pub write-requires : goal.write-requires
 unfolding AllBytes form_of form_in
 write-requires c =
     let r = c.read_all-r.ensures in
-    let f = small_places _ (told_fault _ r c.tell-f.ensures) r (λ i. omega (arith, c.type_inv.s i)) c.in-Right.is in
+    let f = small_places _ (told_fault _ r c.tell.ensures) r (λ i. omega (arith, c.type_inv.s i)) c.in-Ok.is in
     (c.if-places-lt26.false, f.0, f.1)
 
-pub returns-in-Right : goal.returns-in-Right
+pub returns-in-Ok : goal.returns-in-Ok
 unfolding form_of form_in
-returns-in-Right c =
+returns-in-Ok c =
     let r = c.read_all-r.ensures in
-    read_right _ (told_fault _ r c.tell-f.ensures) r _ c.if-places-lt26.false c.in-Right.is c.write.ensures
+    read_right _ (told_fault _ r c.tell.ensures) r _ c.if-places-lt26.false c.in-Ok.is c.write.ensures
 
-pub returns-in-Wrong : goal.returns-in-Wrong
+pub returns-in-Err : goal.returns-in-Err
 unfolding form_of form_in
-returns-in-Wrong c =
+returns-in-Err c =
     let r = c.read_all-r.ensures in
-    read_wrong _ (told_fault _ r c.tell-f.ensures) r _ c.if-places-lt26.false c.in-Wrong.is
+    read_wrong _ (told_fault _ r c.tell.ensures) r _ c.if-places-lt26.false c.in-Err.is

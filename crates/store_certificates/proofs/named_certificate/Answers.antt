@@ -1,6 +1,6 @@
 -- `store_certificates::named_certificate` meets its contract: one case for each answer of `locate`.
 use mathlib.Core.Path.{sym, ◌∙◌}
-use Rattle.store_certificates.proofs.Locating.{card_part, desk_part, missing_part, refused-part}
+use Rattle.store_certificates.proofs.Locating.{card_part, desk_part}
 use Rattle.store_certificates.proofs.named_certificate.Goals as goal
 
 pub returns-in-Card : goal.returns-in-Card
@@ -8,9 +8,3 @@ returns-in-Card c = card_part _ _ _ _ _ (sym c.locate.ensures ∙ c.in-Card.is) 
 
 pub returns-in-Desk : goal.returns-in-Desk
 returns-in-Desk c = desk_part _ _ _ _ _ (sym c.locate.ensures ∙ c.in-Desk.is) c.whole_part-in-Desk.ensures
-
-pub returns-in-Missing : goal.returns-in-Missing
-returns-in-Missing c = missing_part _ _ _ _ (sym c.locate.ensures ∙ c.in-Missing.is) c.whole_part-in-Missing.ensures
-
-pub returns-in-Refused : goal.returns-in-Refused
-returns-in-Refused c = refused-part _ _ _ _ (sym c.locate.ensures ∙ c.in-Refused.is) c.whole_part-in-Refused.ensures

@@ -1,11 +1,8 @@
 -- `store_certificates::stretch_of` meets its contract: the record's length stands at its place, and its bytes behind that.
 use mathlib.Core.Path.{refl}
 use native.Mathlib.Omega.{arith}
-use Rattle.store_certificates.proofs.Locating.{has_number_facts, stretch_of-is}
+use Rattle.store_certificates.proofs.Locating.{stretch_of-is}
 use Rattle.store_certificates.proofs.stretch_of.Goals as goal
-
-pub overflow_sub-n : goal.overflow_sub-n
-overflow_sub-n c = omega (arith, (has_number_facts c.args.body.now c.args.n c.requires.1).first)
 
 pub overflow_add-result : goal.overflow_add-result
 overflow_add-result c =

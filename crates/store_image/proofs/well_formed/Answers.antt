@@ -6,7 +6,7 @@ use native.Mathlib.Omega.{arith}
 use lib.ListN.{length}
 use Rattle.base.proofs.Cases.{flag_refused, flag_accepted}
 use Rattle.store_image.specs.Image.{section_ok, end_at}
-use Rattle.store_image.proofs.Sections.{walk_start, walk_long, walk_end, walk_refused, walk_next, section_ok_facts}
+use Rattle.store_image.proofs.Sections.{walk_start, walk_end, walk_refused, walk_next, section_ok_facts}
 use Rattle.store_image.proofs.well_formed.Goals as goal
 use Rattle.store_image.proofs.well_formed.Goals.{Else-not-section_ok}
 
@@ -20,29 +20,11 @@ was-ok c = flag_accepted c.section_ok.ensures c.if-not-section_ok.false-raw
 whole : (c : Else-not-section_ok) → end_at (I c) c.loop-at.at ≤ length (I c)
 whole c = (section_ok_facts _ _ _ (was-ok c)).whole
 
-pub returns-then-image-gt262144 : goal.returns-then-image-gt262144
-returns-then-image-gt262144 c = walk_long _ c.if-image-gt262144.true
-
 pub loop-at-init : goal.loop-at-init
 loop-at-init c = (walk_start _ c.if-image-gt262144.false, omega arith)
 
-pub section_ok-requires : goal.section_ok-requires
-section_ok-requires c = (omega arith, c.loop-at.invariant.0.beside)
-
 pub returns-then-not-section_ok : goal.returns-then-not-section_ok
 returns-then-not-section_ok c = walk_refused _ _ _ c.loop-at.invariant.0 c.loop-at-test.true (flag_refused c.section_ok.ensures c.if-not-section_ok.true-raw)
-
-pub overflow_add-at : goal.overflow_add-at
-overflow_add-at c = omega (arith, whole (goal.at.overflow_add-at c).Else-not-section_ok)
-
-pub overflow_add-at-in-loop-at : goal.overflow_add-at-in-loop-at
-overflow_add-at-in-loop-at c = omega (arith, whole (goal.at.overflow_add-at-in-loop-at c).Else-not-section_ok)
-
-pub overflow_add-at-in-loop-at-2 : goal.overflow_add-at-in-loop-at-2
-overflow_add-at-in-loop-at-2 c = omega (arith, whole (goal.at.overflow_add-at-in-loop-at-2 c).Else-not-section_ok)
-
-pub loop-at-smaller : goal.loop-at-smaller
-loop-at-smaller c = omega (arith, whole (goal.at.loop-at-smaller c).Else-not-section_ok)
 
 pub loop-at-preserved : goal.loop-at-preserved
 loop-at-preserved c = (walk_next _ _ _ c.loop-at.invariant.0 c.loop-at-test.true _ _ c.read32.ensures.0 c.read16-last.ensures.0 (was-ok (goal.at.loop-at-preserved c).Else-not-section_ok), omega (arith, whole (goal.at.loop-at-preserved c).Else-not-section_ok))

@@ -6,7 +6,7 @@ use Rattle.store_move.proofs.Fitting.{roomy-start, roomy-refused, roomy_next, ro
 use Rattle.store_move.proofs.roomy.Goals as goal
 
 pub loop-i-init : goal.loop-i-init
-loop-i-init c = (stand_start _ c.requires, roomy-start _ _, omega arith)
+loop-i-init c = (stand_start _ c.requires, roomy-start _ _)
 
 pub fits-requires : goal.fits-requires
 fits-requires c = c.loop-i.invariant.0
@@ -20,7 +20,7 @@ behind-from-requires c = c.loop-i.invariant.0
 
 pub loop-i-preserved : goal.loop-i-preserved
 unfolding rows
-loop-i-preserved c = (c.behind-from.ensures, roomy_next _ _ c.loop-i.i _ _ c.read16-kind.ensures.0 c.read32.ensures.0 c.loop-i.invariant.1 (flag_accepted c.fits.ensures c.if-not-fits.false-raw), omega arith)
+loop-i-preserved c = (c.behind-from.ensures, roomy_next _ _ c.loop-i.i _ _ c.read16-kind.ensures.0 c.read32.ensures.0 c.loop-i.invariant.1 (flag_accepted c.fits.ensures c.if-not-fits.false-raw))
 
 pub returns : goal.returns
 unfolding rows

@@ -18,7 +18,7 @@ row c = turn _ _ _ c.requires.1 c.requires.2 _ _ _ _ c.loop-i-test.true c.loop-i
 
 pub loop-i-init : goal.loop-i-init
 unfolding sections
-loop-i-init c = (write_start _ _ _ c.requires.1 c.requires.2, refl, stand_start _ c.requires.0, omega arith)
+loop-i-init c = (write_start _ _ _ c.requires.1 c.requires.2, refl, stand_start _ c.requires.0)
 
 pub overflow_add-end : goal.overflow_add-end
 unfolding rows
@@ -47,7 +47,7 @@ pub loop-i-preserved : goal.loop-i-preserved
 unfolding rows
 loop-i-preserved c =
     let content-there = c.content.ensures ∙ ap (content c.args.old.now) c.read16-kind.ensures.0 in
-    ((row (goal.at.loop-i-preserved c).After-read32).written _ _ _ c.part.ensures content-there c.write_section.ensures, (row (goal.at.loop-i-preserved c).After-read32).next_place, c.behind-from.ensures, omega arith)
+    ((row (goal.at.loop-i-preserved c).After-read32).written _ _ _ c.part.ensures content-there c.write_section.ensures, (row (goal.at.loop-i-preserved c).After-read32).next_place, c.behind-from.ensures)
 
 pub shape_of-target : goal.shape_of-target
 unfolding rows

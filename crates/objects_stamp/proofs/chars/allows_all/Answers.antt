@@ -1,12 +1,9 @@
-use native.Mathlib.Omega.{arith}
-use Rattle.objects_stamp.proofs.Contents.{allows_on, allows_no, allows_end}
+use Rattle.std.proofs.Common.{rules, tests}
+use Rattle.std.proofs.lemmas.Iterator.Search.{all_from_yields_List}
+use Rattle.std.proofs.lemmas.Iterator.{YieldsList-from_slice}
+use Rattle.objects_stamp.specs.Chars.{allows, allows_all}
 use Rattle.objects_stamp.proofs.chars.allows_all.Goals as goal
 
-pub returns-then-not-allows : goal.returns-then-not-allows
-returns-then-not-allows c = allows_no _ _ _ c.loop-i.invariant (omega arith) c.allows.ensures c.if-not-allows.true-raw
-
-pub loop-i-preserved : goal.loop-i-preserved
-loop-i-preserved c = allows_on _ _ _ c.loop-i.invariant (omega arith) c.allows.ensures c.if-not-allows.false-raw
-
 pub returns : goal.returns
-returns c = allows_end c.args.c c.args.v.now c.loop-i.i c.loop-i.invariant (omega arith)
+unfolding allows_all
+returns c = all_from_yields_List (allows c.args.c) _ _ _ c.all.ensures.ran (YieldsList-from_slice c.args.v.now cc) (λ x b q k. search (rules, tests))

@@ -3,9 +3,9 @@ use mathlib.Core.Path.{◌≡◌}
 use mathlib.Core.Bool.{true}
 use native.Mathlib.Omega.{arith}
 use lib.ListN.{length}
-use Rattle.base.proofs.Cases.{flag_refused, flag_accepted}
+use Rattle.base.proofs.Cases.{flag_accepted}
 use Rattle.store_kinds.specs.Biometrics.{updatable}
-use Rattle.store_kinds.proofs.Updating.{bio_ok_facts, updatable_accepted, updatable-refused, updatable_gap, updatable_full, update_accepted, update-refused}
+use Rattle.store_kinds.proofs.Updating.{bio_ok_facts, updatable_accepted, update_accepted}
 use Rattle.store_kinds.proofs.biometrics.update.Goals as goal
 use Rattle.store_kinds.proofs.biometrics.update.Goals.{After-write-arg-1}
 
@@ -15,17 +15,8 @@ can c =
     let f = bio_ok_facts _ o in
     updatable_accepted _ _ _ o (omega arith) (omega (arith, f.within))
 
-pub returns-then-not-well_formed : goal.returns-then-not-well_formed
-returns-then-not-well_formed c = update-refused _ _ _ (updatable-refused _ _ _ (flag_refused c.well_formed-2.ensures c.if-not-well_formed.true-raw))
-
-pub returns-then-w-offset : goal.returns-then-w-offset
-returns-then-w-offset c = update-refused _ _ _ (updatable_gap _ _ _ (omega arith))
-
 pub overflow_sub-room : goal.overflow_sub-room
 overflow_sub-room c = let f = bio_ok_facts _ (flag_accepted c.well_formed-2.ensures c.if-not-well_formed.false-raw) in omega (arith, f.within)
-
-pub returns-then-room-offset : goal.returns-then-room-offset
-returns-then-room-offset c = update-refused _ _ _ (updatable_full _ _ _ (omega arith))
 
 pub write-requires : goal.write-requires
 write-requires c = (can (goal.at.write-requires c).After-write-arg-1, c.written-w.ensures.0)
