@@ -1,7 +1,7 @@
 #!/usr/bin/env python3
 """One outcome for every public function: its crate's proofs/Determined.antt has a theorem, `Determined`, or where a part is returned
-`DeterminedPart` or `DeterminedAddress` (crates/base/specs/Determined.antt), of this function's own contract; a function that takes a closure has
-`DeterminedFor`, of the closures that ask one test. The prover checks the theorems; here is checked that none is missing.
+`DeterminedPart` or `DeterminedAddress` (crates/base/specs/Determined.antt), of this function's own contract. The prover checks the
+theorems; here is checked that none is missing, and that no public function has a `requires`: each takes every input.
 
     scripts/determined.py          says which public function has no theorem
     scripts/determined.py --list   lists those that need none: they only print, or read standard input (`read_full`). A function that prints answers
@@ -18,18 +18,16 @@ from definitions import ROOT
 # the one function that reads standard input
 READS = ('program_console', 'read_full')
 
-# path: as proofs cite it, its module in front; outside: it prints and does no more, or it reads standard input; closure: it takes one
-Function = collections.namedtuple('Function', 'crate path place outside closure')
+# path: as proofs cite it, its module in front; outside: it prints and does no more, or it reads standard input
+# asks: it has a `requires`
+Function = collections.namedtuple('Function', 'crate path place outside asks')
 
-# the arrow of a closure that a function takes, which is none of its own
-CLOSURE = re.compile(r'\bFn(?:Mut|Once)?\([^()]*\) ->')
 PUBLIC = re.compile(r'^\s*pub (?:extern "C" )?fn (\w+)')
 USE = re.compile(r'^use Rattle\.(\w+)\.proofs\.([\w.]+)\.(Kinds|Reads) as (\S+)$', re.M)
 FROM_BASE = re.compile(r'^use Rattle\.base\.specs\.Determined\.\{(.*)\}$', re.M)
 THEOREM = re.compile(r'^pub \S+ :\s+(?:(Determined)\s+(\S+)\.ps\s+(\S+)\.r|(DeterminedPart|DeterminedAddress)\s+(\S+)\.ps)\s+(\S+)\.Post$', re.M)
-# the same of a function that takes a closure: each of the three is given the closure's type, and what there is of it
-FOR_CLOSURES = re.compile(r'^ *pub \S+ :\s+DeterminedFor\s+\((\S+)\.ps [^()]*\)\s+\((\S+)\.r [^()]*\)\s+\((\S+)\.Post [^()]*\)\s', re.M)
-TAKES_CLOSURE = re.compile(r'pub fn \w+<\w+: Fn\(')
+# the same of a generic function: each of the three is given the type, and what there is of it
+GENERIC = re.compile(r'^ *pub \S+ :\s+(Determined)\s+\((\S+)\.ps [^()]*\)\s+\((\S+)\.r [^()]*\)\s+\((\S+)\.Post [^()]*\)$', re.M)
 SECTION = re.compile(r'^## Is anything left open\?.*?(?=^##)', re.M | re.S)
 
 
@@ -43,17 +41,15 @@ def functions():
             match = PUBLIC.match(line)
             if match:
                 body = next(i for i in range(at, len(lines)) if lines[i].rstrip() == '{')
-                whole = ' '.join(x.strip() for x in lines[at:body])
-                head = CLOSURE.sub('', whole)
+                head = ' '.join(x.strip() for x in lines[at:body])
                 name = '.'.join([m for m in module if m != 'lib'] + [match.group(1)])
                 prints = head.endswith(' ensures { Unit {0} }') and '->' not in head and '&mut' not in head
-                found.append(Function(crate, name, f'{path.relative_to(ROOT)}:{at + 1}', prints or (crate, name) == READS,
-                                      bool(TAKES_CLOSURE.match(whole))))
+                found.append(Function(crate, name, f'{path.relative_to(ROOT)}:{at + 1}', prints or (crate, name) == READS, ' requires' in head))
     return found
 
 
 def proved(crate):
-    """The functions of a crate that have their theorem, in a file that the crate's Lib.antt declares; and whether it is one for closures."""
+    """The functions of a crate that have their theorem, in a file that the crate's Lib.antt declares."""
     lib, text = (p.read_text(encoding='utf-8') if p.exists() else '' for p in
                  [ROOT / 'crates' / crate / 'proofs' / name for name in ('Lib.antt', 'Determined.antt')])
     if 'pub mod Determined\n' not in lib:
@@ -66,18 +62,19 @@ def proved(crate):
         kind, path = alias.get(reads, ('', ''))
         own = kind == 'Reads' and alias.get(kinds or lent) == ('Kinds', path) and (not whole or result == kinds)
         if own and (whole or part) in meant:
-            found.add((path, False))
-    for kinds, result, reads in FOR_CLOSURES.findall(text):
+            found.add(path)
+    for whole, kinds, result, reads in GENERIC.findall(text):
         kind, path = alias.get(reads, ('', ''))
-        if kind == 'Reads' and alias.get(kinds) == ('Kinds', path) and result == kinds and 'DeterminedFor' in meant:
-            found.add((path, True))
+        if kind == 'Reads' and alias.get(kinds) == ('Kinds', path) and result == kinds and whole in meant:
+            found.add(path)
     return found
 
 
 def main():
     every = functions()
     have = {crate: proved(crate) for crate in {f.crate for f in every}}
-    wrong = [f'{f.place}: no theorem that the contract of {f.path} determines its outcome' for f in every if not f.outside and (f.path, f.closure) not in have[f.crate]]
+    wrong = [f'{f.place}: no theorem that the contract of {f.path} determines its outcome' for f in every if not f.outside and f.path not in have[f.crate]]
+    wrong += [f'{f.place}: {f.path} has a `requires`, and a public function takes every input' for f in every if f.asks]
     outside = [f for f in every if f.outside]
     named = set(re.findall(r'`(\w+)`', SECTION.search((ROOT / 'docs/AUDIT.md').read_text(encoding='utf-8')).group()))
     wrong += [f'{f.place}: only prints or reads, and docs/AUDIT.md does not name {f.crate} among what is left open' for f in outside if f.crate not in named]

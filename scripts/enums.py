@@ -2,8 +2,9 @@
 """Checks the tables of clause C2 in docs/RULES.md: a definition for the cases of each answer.
 
 Every public enum that a public function of a library answers, as its result or inside it, stands in one row. So does every public function
-that answers an `Option` or a `Result`, by its crate and its name. The definition in that row is one of crates/*/specs/, and its text names each
-case: those of the enum, `Some` and `None`, or `Ok` and `Err`."""
+that answers an `Option` or a `Result`, by its crate and its name, and so does every public field of an answered struct that holds one, by its crate,
+its struct and its name. The definition in that row is one of crates/*/specs/, and its text names each case: those of the enum, `Some` and `None`,
+or `Ok` and `Err`."""
 import re
 import sys
 
@@ -16,7 +17,8 @@ ALIAS = re.compile(r'^pub type (\w+) = ([^;]+);', re.M)
 FUNCTION = re.compile(r'^pub (?:extern "C" )?fn (\w+)(?:<[^>]*>)?\([^)]*\) -> ([^\n]+)$', re.M)
 CASE = re.compile(r'^    ([A-Z]\w*)', re.M)
 NAME = re.compile(r'\b[A-Z]\w*')
-ROW = re.compile(r'^  \| `(\w+(?:::\w+)?)` \| `([^`]+)` \|')
+FIELD = re.compile(r'^    pub (\w+): (Option|Result)<', re.M)
+ROW = re.compile(r'^  \| `(\w+(?:::\w+(?:\.\w+)?)?)` \| `([^`]+)` \|')
 CASES = {'Option': ['Some', 'None'], 'Result': ['Ok', 'Err']}
 
 
@@ -28,11 +30,13 @@ def sources():
 
 
 def answered():
-    """The enums that public functions answer, and the functions that answer an `Option` or a `Result`, each with its cases."""
-    types, results, functions = {}, [], {}
+    """The enums that public functions answer, and the functions and fields that answer an `Option` or a `Result`, each with its cases."""
+    types, results, functions, homes = {}, [], {}, {}
     aliases = {name: meant for _, text in sources() for name, meant in ALIAS.findall(text)}
     for crate, text in sources():
-        types.update({name: (kind, inside) for kind, name, inside in TYPE.findall(text)})
+        here = {name: (kind, inside) for kind, name, inside in TYPE.findall(text)}
+        types.update(here)
+        homes.update(dict.fromkeys(here, crate))
         for name, result in FUNCTION.findall(text):
             result = aliases.get(result, result)
             results.append(result)
@@ -43,6 +47,9 @@ def answered():
         if name in types and name not in reached:
             reached.add(name)
             open_ones += NAME.findall(types[name][1])
+    for name in sorted(reached):
+        if types[name][0] == 'struct':
+            functions.update({f'{homes[name]}::{name}.{field}': CASES[word] for field, word in FIELD.findall(types[name][1])})
     enums = {name: CASE.findall(inside) for name, (kind, inside) in sorted(types.items()) if kind == 'enum'}
     return functions | {name: cases for name, cases in enums.items() if name in reached}, enums
 

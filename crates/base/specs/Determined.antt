@@ -24,12 +24,6 @@ abbrev pub Determined : {n : ℕ} (ps : List (ParamKind n)) (r : ResultKind n) �
 Determined {n} ps r Post =
     (κs : Lfts n) (a : Dens κs ps) (e f : Ending ps r κs a) → Fulfils ps r Post κs a e → Fulfils ps r Post κs a f → e ≡ f
 
--- where a closure is passed in: equal for each closure of which Asked holds, as that it asks one test. What it may answer otherwise is left
--- open [C1]
-abbrev pub DeterminedFor : {n : ℕ} (ps : List (ParamKind n)) (r : ResultKind n) → Out n ps r → ((κs : Lfts n) → Dens κs ps → Type 0) → Type 0
-DeterminedFor {n} ps r Post Asked =
-    (κs : Lfts n) (a : Dens κs ps) → Asked κs a → (e f : Ending ps r κs a) → Fulfils ps r Post κs a e → Fulfils ps r Post κs a f → e ≡ f
-
 -- the kind of a result that is a part, as `&[u8]`, of a slice that is lent for the first of the lifetimes [C1]
 abbrev pub PartLent : {n : ℕ} → ResultKind (suc n)
 PartLent = r_shr_s (rt_f (f_int w8)) 0 tt

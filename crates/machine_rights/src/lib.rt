@@ -45,9 +45,10 @@ fn seventeen(s: &[u8], at: usize) -> [u8; 17]
     requires { at + 17 ≤ length s.now }
     ensures { result ≡ part s.now at 17 }
 {
-    let mut z = [0; 17];
-    z.copy_from_slice(&s[at..at + 17]);
-    z
+    match s[at..].first_chunk() {
+        Some(bytes) => *bytes,
+        None => [0; 17],
+    }
 }
 
 // Certificate k of the three, counted from 0.

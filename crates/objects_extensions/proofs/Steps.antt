@@ -6,12 +6,10 @@ use mathlib.Core.List.{List, [], ◌∷◌}
 use native.Mathlib.Omega.{arith}
 use lib.ListN.{length, get_or, drop, length-drop}
 use lib.Dec.{ltb, eqb}
-use lib.Pointwise.{pointwise}
 use lib.Bits.{bit_or, or_lt}
 use borrow.Author.Tests.{eq-eqb, ne_eqb}
 use Rattle.base.specs.Bytes.{same_bytes, part, put}
 use Rattle.base.proofs.Cases.{if_else_ind}
-use Rattle.base.proofs.Same.{same_pointwise}
 use Rattle.objects_reader.specs.Head.{head_of, past_by, length_of, Head}
 use Rattle.objects_reader.specs.Form.{is_clean, read_all}
 use Rattle.objects_reader.specs.Places.{span_at}
@@ -39,11 +37,6 @@ gave e = (sym (ap (λ (q : RunResult). q.read) e), sym (ap (λ (q : RunResult). 
 
 pub of_gave : {r : RunResult} {n : RunRead} {d : List ℕ} → Gave r n d → r ≡ record { read = n; bytes = d }
 of_gave {r} {n} {d} g = let a = g.0 in let b = g.1 in rw (a, b) refl
-
--- ---- tests
-
-pub names_by : (id : List ℕ) {k j : Known} {r : Bool} → k ≡ j → r ≡ pointwise eqb id (identifier_of j) → r ≡ same_bytes id (identifier_of k)
-names_by id {k} {j} e f = rw e (f ∙ same_pointwise id (identifier_of j))
 
 -- ---- a known extension
 

@@ -8,7 +8,7 @@ ghost use Rattle.base.specs.Bytes.{same_bytes};
 ghost use Rattle.objects_extensions.specs.Extensions.{identifier_of, size_of, flag_of};
 ghost use Rattle.objects_extensions.specs.Read.{rights_place, has_flag, keeps_known, keeps, extension_on, run_on, runs_on, runs_into, read_rights, read_rights_into};
 
-use base::{byte, part, put};
+use base::{byte, part, put, same_bytes};
 use objects_reader::head::header;
 use objects_reader::reader::read_all;
 
@@ -52,9 +52,9 @@ fn is_for(id: &[u8], k: Known) -> bool
     ensures { result ≡ same_bytes id.now (identifier_of k) }
 {
     match k {
-        Known::Travel => id == TRAVEL,
-        Known::Visa => id == VISA,
-        Known::Biometrics => id == BIOMETRICS,
+        Known::Travel => same_bytes(id, TRAVEL),
+        Known::Visa => same_bytes(id, VISA),
+        Known::Biometrics => same_bytes(id, BIOMETRICS),
     }
 }
 
@@ -173,9 +173,14 @@ fn three_runs(
     let mut a = [0u8; 20];
     run(first, &mut a)?;
     let mut b = [0u8; 20];
-    run(second, &mut b)?;
+    let y = run(second, &mut b);
+    y?;
     let mut c = [0u8; 20];
-    run(third, &mut c)?;
+    let z = run(third, &mut c);
+    // No `?`: the edit refused_kept looks at y here, and behind a `?` it would be refused for the name of a goal alone.
+    if let Err(fault) = z {
+        return Err(fault);
+    }
     put(rights, 0, &a);
     put(rights, 20, &b);
     put(rights, 40, &c);

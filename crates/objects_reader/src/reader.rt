@@ -54,26 +54,21 @@ fn fresh() -> Reading
 }
 
 // The reading with a fault noted.
-fn spoil(r: Reading, fault: Fault, at: usize) -> Reading
-    ensures { result ≡ spoilt r fault at }
+fn spoil(r: &mut Reading, fault: Fault, at: usize)
+    ensures { r.new ≡ spoilt r.old fault at }
 {
-    Reading {
-        fault: Some(fault),
-        at,
-        ..r
-    }
+    r.fault = Some(fault);
+    r.at = at;
 }
 
-// The reading with the place of one more value, where there is room for it.
-fn note(r: Reading, start: usize, len: usize) -> Reading
-    ensures { result ≡ noted r start len }
+// Notes the place of one more value, where there is room for it. The reading is lent: its list is too long to be copied for each value.
+fn note(r: &mut Reading, start: usize, len: usize)
+    ensures { r.new ≡ noted r.old start len }
 {
-    let mut q = r;
     if r.n < 13 {
-        q.places[r.n] = Span { at: start, len };
-        q.n = r.n + 1;
+        r.places[r.n] = Span { at: start, len };
+        r.n += 1;
     }
-    q
 }
 
 // Where the rows of what stands inside the first object end.
@@ -140,21 +135,23 @@ fn first(s: &[u8], form: &[[u16; 5]], depth: usize) -> Step
 }
 
 // Reads s, the value of an object or the whole data, by the rows of its form: a turn for each object of this level, and a call for
-// what stands inside one, with one less of the remaining depth. base is where s starts in the data.
-fn objects(s: &[u8], form: &[[u16; 5]], base: usize, depth: usize, r: Reading) -> Reading
+// what stands inside one, with one less of the remaining depth. base is where s starts in the data. The reading is lent on to the calls.
+fn objects(s: &[u8], form: &[[u16; 5]], base: usize, depth: usize, r: &mut Reading)
     requires { base + length s.now < 18446744073709551616 }
-    ensures { result ≡ read_form (form_of form.now) depth base s.now r }
+    ensures { r.new ≡ read_form (form_of form.now) depth base s.now r.old }
 {
-    let mut q = r;
     // Each step is read from the data: no range counts these two.
     let mut at = 0;
     let mut row = 0;
     loop {
         match first(&s[at..], &form[row..], depth) {
-            Step::Done => return q,
-            Step::Bad(fault) => return spoil(q, fault, base + at),
+            Step::Done => return,
+            Step::Bad(fault) => {
+                spoil(r, fault, base + at);
+                return;
+            }
             Step::Plain(start, len) => {
-                q = note(q, base + at + start, len);
+                note(r, base + at + start, len);
                 at = at + start + len;
                 row = row + 1;
             }
@@ -163,15 +160,15 @@ fn objects(s: &[u8], form: &[[u16; 5]], base: usize, depth: usize, r: Reading) -
                 let to = from + len;
                 let inner = row + 1;
                 let next = row + cut;
-                q = objects(&s[from..to], &form[inner..next], base + from, depth - 1, q);
-                if q.fault.is_some() {
-                    return q;
+                objects(&s[from..to], &form[inner..next], base + from, depth - 1, r);
+                if r.fault.is_some() {
+                    return;
                 }
                 at = to;
                 row = next;
             }
             Step::Absent => {
-                q = note(q, 0, 0);
+                note(r, 0, 0);
                 row = row + 1;
             }
         }
@@ -182,7 +179,9 @@ fn objects(s: &[u8], form: &[[u16; 5]], base: usize, depth: usize, r: Reading) -
 pub fn read_all(s: &[u8], form: &[[u16; 5]]) -> Reading
     ensures { result ≡ read_all (form_of form.now) s.now }
 {
-    objects(s, form, 0, 4, fresh())
+    let mut r = fresh();
+    objects(s, form, 0, 4, &mut r);
+    r
 }
 
 // The same for the data of a command: more than 65,535 bytes are a wrong length.
@@ -193,6 +192,8 @@ pub fn read(s: &[u8], form: &[[u16; 5]]) -> Reading
     if s.len() <= 65535 {
         read_all(s, form)
     } else {
-        spoil(fresh(), Fault::Length, 0)
+        let mut r = fresh();
+        spoil(&mut r, Fault::Length, 0);
+        r
     }
 }

@@ -12,7 +12,8 @@ ghost use Rattle.objects_stamp.specs.Rules.{chars_of, content_ok};
 ghost use Rattle.objects_stamp.specs.Loops.{of_fault, object_at, tells};
 ghost use Rattle.objects_stamp.specs.Read.{read_stamp, read_stamp_into};
 
-use base::part;
+use base::natural::saturating_sub;
+use base::{part, same_bytes};
 use chars::{Chars, allows_all};
 use objects_reader::reader::{Fault, Reading, read_all};
 
@@ -79,13 +80,13 @@ fn chars_of(k: usize) -> Chars
 
 // Whether the k-th field may be the len bytes of the record from start on. The State inside `73` is also the copy, whose value stands
 // behind two bytes of tag and one of length.
-#[tactic(auto, using(base::proofs::Same::same_pointwise), unfolding(crate::specs::Rules::content_ok))]
+#[tactic(auto, unfolding(crate::specs::Rules::content_ok))]
 fn content_ok(s: &[u8], k: usize, start: usize, len: usize) -> bool
     requires { k < 13 }
     ensures { result ≡ content_ok s.now k start len }
 {
     let v = part(s, start, len);
-    allows_all(chars_of(k), v) && (k != 1 || v == part(s, 3, len))
+    allows_all(chars_of(k), v) && (k != 1 || same_bytes(v, part(s, 3, len)))
 }
 
 // Where the object starts whose value is the len bytes from start on: before two bytes of tag and, up to 127 bytes of value, one of length, else
@@ -93,7 +94,7 @@ fn content_ok(s: &[u8], k: usize, start: usize, len: usize) -> bool
 fn object_at(start: usize, len: usize) -> usize
     ensures { result ≡ object_at start len }
 {
-    start.saturating_sub(if len < 128 { 3 } else { 4 })
+    saturating_sub(start, if len < 128 { 3 } else { 4 })
 }
 
 fn of_fault(fault: Option<Fault>, at: usize) -> Finding
@@ -108,8 +109,8 @@ fn of_fault(fault: Option<Fault>, at: usize) -> Finding
 
 // The first wrong content of the thirteen places, and else the reader's own fault. A place that was never noted has no bytes, so nothing
 // is wrong with it.
-fn tell(s: &[u8], r: Reading) -> Finding
-    ensures { result ≡ tells (content_ok s.now) r 13 0 }
+fn tell(s: &[u8], r: &Reading) -> Finding
+    ensures { result ≡ tells (content_ok s.now) r.now 13 0 }
 {
     for k in 0..13 {
         let p = r.places[k];
@@ -121,9 +122,9 @@ fn tell(s: &[u8], r: Reading) -> Finding
 }
 
 // Writes the places of the thirteen fields: of each its start and its length.
-fn write(r: Reading, places: &mut [u32])
-    requires { (26 ≤ length places.old) × ((k : ℕ) → (span_at r k).at < 4294967296) × ((k : ℕ) → (span_at r k).len < 4294967296) }
-    ensures { places.new ≡ sets places.old 0 (place_pairs r.places 13) }
+fn write(r: &Reading, places: &mut [u32])
+    requires { (26 ≤ length places.old) × ((k : ℕ) → (span_at r.now k).at < 4294967296) × ((k : ℕ) → (span_at r.now k).len < 4294967296) }
+    ensures { places.new ≡ sets places.old 0 (place_pairs r.now.places 13) }
 {
     for i in 0..13 {
         places[2 * i] = r.places[i].at as u32;
@@ -140,9 +141,9 @@ pub fn read_stamp(s: &[u8], places: &mut [u32]) -> Result<(), StampFault>
         return Err(StampFault::ShortList);
     }
     let r = read_all(s, &STAMP);
-    match tell(s, r) {
+    match tell(s, &r) {
         Ok(()) => {
-            write(r, places);
+            write(&r, places);
             Ok(())
         }
         Err((reason, at)) => Err(StampFault::Wrong(reason, at)),

@@ -2,8 +2,31 @@
 ghost use Rattle.std.specs.Prelude.{◌≡◌, ◌-◌, ◌<◌, length, leb};
 ghost use Rattle.base.specs.Choice.{if_else};
 
-use crate::word;
-use std::io::Stdout;
+use crate::{warn, word};
+use std::alloc::AllocError;
+use std::io::{Stderr, Stdout};
+
+// Why no more cases are answered: the next one is torn or unknown, or memory runs out.
+#[derive(Clone, Copy)]
+pub enum Stop {
+    Torn,
+    OutOfMemory,
+}
+
+impl From<AllocError> for Stop {
+    fn from(_e: AllocError) -> Stop {
+        Stop::OutOfMemory
+    }
+}
+
+// A program's cases, with what each leaves to those behind it.
+pub trait Cases<'a> {
+    // Answers the case that s begins with, and gives what stands behind it.
+    fn answer(&mut self, s: &'a [u8]) -> Result<&'a [u8], Stop>;
+
+    // Hears that memory has run out, so that the program's exit status says so.
+    fn fail(&mut self);
+}
 
 // Where the next case of s begins, when the one at `at` leaves `left` bytes behind it. A case that is torn or unknown leaves no fewer
 // bytes than stood there: then a line says so, and the answer is the end of s.
@@ -18,16 +41,23 @@ pub fn next(out: Stdout, s: &[u8], at: usize, left: usize) -> usize
     n - left
 }
 
-// Answers the cases of s in turn, up to the first that is torn or unknown. `case` answers the one that its bytes begin with and gives what stands
-// behind it, none where it is torn or unknown. The loop stays a `while`: a case says how long it is.
-pub fn answer_all<'a, F: FnMut(&'a [u8]) -> Option<&'a [u8]>>(out: Stdout, s: &'a [u8], mut case: F)
-    requires { F.IsAlwaysCallable case }
+// Answers the cases of s in turn, up to the first that is torn or unknown, or until memory runs out, which a line on standard error says: that case
+// is not told to be torn. The loop stays a `while`: a case says how long it is.
+pub fn answer_all<'a, C: Cases<'a> + Drop>(out: Stdout, err: Stderr, s: &'a [u8], mut cases: C)
     ensures { Unit {0} }
 {
     let mut at = 0;
     while at < s.len() {
         let rest = base::part(s, at, s.len());
-        let left = case(rest).map_or(rest.len(), |behind| behind.len());
+        let left = match cases.answer(rest) {
+            Ok(behind) => behind.len(),
+            Err(Stop::Torn) => rest.len(),
+            Err(Stop::OutOfMemory) => {
+                warn(err, b"out of memory\n");
+                cases.fail();
+                return;
+            }
+        };
         at = next(out, s, at, left);
     }
 }

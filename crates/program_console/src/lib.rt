@@ -9,7 +9,7 @@ pub mod words;
 
 ghost use Rattle.std.specs.Prelude.{◌≡◌, ◌≤◌, length, replicate};
 
-use std::io::{Cursor, Read, Stderr, Stdin, Stdout, Write};
+use std::io::{Read, Stderr, Stdin, Stdout};
 
 // Writes a word.
 pub fn word(out: Stdout, s: &[u8])
@@ -57,18 +57,25 @@ pub fn flag(out: Stdout, yes: bool)
 // How many bytes are written at once, since each write is a call of the system.
 const AT_ONCE: usize = 1024;
 
-// Writes at most AT_ONCE bytes in hexadecimal: card tools have capitals and a space before each byte, the tables of test programs small letters.
-fn some(out: Stdout, s: &[u8], for_tools: bool) {
-    let mut text = Cursor::new([0; 3072]);
-    for b in s {
-        let _ = if for_tools {
-            write!(text, " {b:02X}")
-        } else {
-            write!(text, "{b:02x}")
-        };
+// A digit: card tools have capitals, the tables of test programs small letters. (No format: that takes many times as long for each byte.)
+fn digit(n: u8, for_tools: bool) -> u8 {
+    match n % 16 {
+        d @ 0..=9 => b'0' + d,
+        d if for_tools => b'A' - 10 + d,
+        d => b'a' - 10 + d,
     }
-    let n = text.position() as usize;
-    word(out, base::part(&text.into_inner(), 0, n));
+}
+
+// Writes the first AT_ONCE bytes of s in hexadecimal, or all where there are fewer; for card tools with a space before each.
+fn some(out: Stdout, s: &[u8], for_tools: bool) {
+    let mut text = [b' '; 3072];
+    let n = s.len().min(AT_ONCE);
+    for i in 0..n {
+        let at = if for_tools { 3 * i + 1 } else { 2 * i };
+        text[at] = digit(s[i] / 16, for_tools);
+        text[at + 1] = digit(s[i], for_tools);
+    }
+    word(out, &text[..if for_tools { 3 * n } else { 2 * n }]);
 }
 
 // Writes the bytes of s in hexadecimal, as `some` does.

@@ -21,25 +21,31 @@ const MEANINGS: [(u64, &str); 15] = [
     (0x6E00, "Class not supported"),
 ];
 
-// Why a call was refused, by the refusal's number.
+// What is told of a refusal, by its number.
 const REASONS: [(u64, &str); 11] = [
-    (1, " (1): the response buffer is too short"),
-    (2, " (2): the card image is not well formed"),
-    (3, " (3): rights are 60 bytes, three certificates of 20"),
-    (4, " (4): the session does not fit the card"),
+    (1, "! refused (1): the response buffer is too short"),
+    (2, "! refused (2): the card image is not well formed"),
+    (
+        3,
+        "! refused (3): rights are 60 bytes, three certificates of 20",
+    ),
+    (4, "! refused (4): the session does not fit the card"),
     (
         7,
-        " (7): an extension is not well formed, or the rights of a known one have the wrong size",
+        "! refused (7): an extension is not well formed, or the rights of a known one have the wrong size",
     ),
-    (8, " (8): a certificate has a known extension twice"),
+    (
+        8,
+        "! refused (8): a certificate has a known extension twice",
+    ),
     (
         9,
-        " (9): the card or the copy has no well-formed body of travel certificates",
+        "! refused (9): the card or the copy has no well-formed body of travel certificates",
     ),
-    (10, " (10): these rooms make no well-formed card"),
-    (11, " (11): a file of the card has no room"),
-    (12, " (12): a room is too small for its file"),
-    (13, " (13): the target is too short"),
+    (10, "! refused (10): these rooms make no well-formed card"),
+    (11, "! refused (11): a file of the card has no room"),
+    (12, "! refused (12): a room is too small for its file"),
+    (13, "! refused (13): the target is too short"),
 ];
 
 // The text that a table has for a number, `otherwise` where it has none.
@@ -61,7 +67,6 @@ pub fn status(out: Stdout, w: u64)
 pub fn refusal(err: Stderr, number: u64)
     ensures { Unit {0} }
 {
-    warn(err, b"! refused");
-    warn(err, text_of(&REASONS, number, "").as_bytes());
+    warn(err, text_of(&REASONS, number, "! refused").as_bytes());
     warn(err, b"\n");
 }

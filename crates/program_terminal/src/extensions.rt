@@ -31,12 +31,14 @@ fn decode<'a>(word: &[u8], out: &'a mut [u8]) -> Result<&'a [u8], Fault> {
     hex::decode(word, out).ok_or(Fault::Unread)
 }
 
-// The line of three certificates, behind its first word.
-pub(crate) fn line(mut words: Words, session: &mut [u8], how: How) -> Result<(), Fault> {
-    let runs = (words.next(), words.next(), words.next(), words.next());
-    let (Some(first), Some(second), Some(third), None) = runs else {
-        return Err(Fault::Unread);
-    };
+// Opens a session with three words, where each is a run.
+fn open_words(
+    first: &[u8],
+    second: &[u8],
+    third: &[u8],
+    session: &mut [u8],
+    how: How,
+) -> Result<(), Fault> {
     let mut a = program_console::large_buffer();
     let mut b = program_console::large_buffer();
     let mut c = program_console::large_buffer();
@@ -44,4 +46,13 @@ pub(crate) fn line(mut words: Words, session: &mut [u8], how: How) -> Result<(),
     let second = decode(second, &mut b)?;
     let third = decode(third, &mut c)?;
     open(how, first, second, third, session)
+}
+
+// The line of three certificates, behind its first word.
+pub(crate) fn line(mut words: Words, session: &mut [u8], how: How) -> Result<(), Fault> {
+    let runs = (words.next(), words.next(), words.next(), words.next());
+    let (Some(first), Some(second), Some(third), None) = runs else {
+        return Err(Fault::Unread);
+    };
+    open_words(first, second, third, session, how)
 }

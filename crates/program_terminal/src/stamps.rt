@@ -4,7 +4,7 @@ use crate::hex;
 use crate::status::Fault;
 use crate::text::Words;
 use program_console::result;
-use std::io::{Stdout, Write};
+use std::io::Stdout;
 use store_records::body;
 
 // How many bytes stand in a row.
@@ -94,8 +94,10 @@ fn rows(out: Stdout, record: &[u8], at: usize, why: u64) {
 }
 
 // What stands before the answer: the number, and the file.
-fn title(mut out: Stdout, number: u8, name: &str) {
-    let _ = write!(out, "= record {number:02X} of {name}");
+fn title(out: Stdout, number: u8, file: &str) {
+    program_console::word(out, b"= record");
+    program_console::spell(out, &[number]);
+    program_console::word(out, file.as_bytes());
 }
 
 // Reads a record as a stamp, and writes what it says.
@@ -129,8 +131,8 @@ fn find(out: Stdout, b: &[u8], number: u8, name: &str) {
 pub(crate) fn line(out: Stdout, mut words: Words, image: &[u8]) -> Result<(), Fault> {
     let number = hex::byte(&mut words)?;
     let (kind, name) = match words.next() {
-        None => (0x0101, "EntryRecords"),
-        Some(b"exit") if words.rest.is_empty() => (0x0102, "ExitRecords"),
+        None => (0x0101, " of EntryRecords"),
+        Some(b"exit") if words.rest.is_empty() => (0x0102, " of ExitRecords"),
         Some(_) => return Err(Fault::Unread),
     };
     find(out, store_image::body(image, kind), number, name);

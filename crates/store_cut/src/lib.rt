@@ -7,6 +7,7 @@ ghost use Rattle.store_records.specs.Body.{count, used, appendable};
 ghost use Rattle.store_cut.specs.declared.Writing.TheVariants.{Record, State};
 ghost use Rattle.store_cut.specs.Stores.{at, run, record_stores, stores, made, make_stores};
 
+use base::natural::saturating_sub;
 use store_kinds::biometrics;
 use store_records::body;
 
@@ -35,7 +36,7 @@ fn make_run(body: &mut [u8], at: usize, bytes: &[u8], k: usize) -> usize
     ensures { (result ≡ k - length bytes.now) × (body.new ≡ made (take k (run at bytes.now)) body.old) }
 {
     base::put(body, at, base::part(bytes, 0, k));
-    k.saturating_sub(bytes.len())
+    saturating_sub(k, bytes.len())
 }
 
 // Makes the first k stores of a record behind the first `at` bytes, which hold n records: its length, its bytes, the count's high byte and

@@ -10,7 +10,7 @@ ghost use Rattle.store_image.specs.Image.{find, has, body, present, section_ok, 
 
 use store_cut::Writing;
 use store_kinds::biometrics;
-use store_kinds::rules::{application_of, kind_ok, present_by};
+use store_kinds::rules::{Kinds, application_of, kind_ok, present_by};
 use store_records::little::{read16, read32};
 
 // The first section of a kind.
@@ -51,12 +51,24 @@ pub fn body(image: &[u8], kind: usize) -> &[u8]
     }
 }
 
+// An image tells by its sections which kinds are there.
+#[derive(Clone, Copy)]
+struct KindsIn<'a>(&'a [u8]);
+
+impl Kinds for KindsIn<'_> {
+    ghost kinds = { λ s. has s.0.now };
+
+    fn has(&self, kind: usize) -> bool {
+        has(self.0, kind)
+    }
+}
+
 // Whether an application is present, which it is when its sections are.
 #[tactic(auto, unfolding(crate::specs::Image::present))]
 pub fn present(image: &[u8], application: usize) -> bool
     ensures { result ≡ present image.now application }
 {
-    present_by(|kind| has(image, kind), application)
+    present_by(&KindsIn(image), application)
 }
 
 // Whether the application of a kind is present, behind a section of kind `last`, whose application is; `last` is 0 where there is none

@@ -1,13 +1,10 @@
 -- Every public function of this crate has one outcome: its contract leaves nothing open. Read before: specs/Determined.antt of base.
-use Prim.Native.Nat.{ℕ}
 use mathlib.Core.Path.{refl, sym, ◌∙◌}
-use mathlib.Core.Bool.{Bool}
 use denote.RattleType.{RattleType}
 use denote.Param.Laws.{Laws}
 use mir.Syntax.{Dict}
-use Rattle.base.specs.Determined.{Determined, DeterminedFor, DeterminedPart}
-use Rattle.store_kinds.specs.Rules.{Asks}
-use Rattle.store_kinds.specs.contracts.rules.present_by.F-Fn.{Ghosts, words}
+use Rattle.store_kinds.specs.declared.rules.Kinds.{Ghosts}
+use Rattle.base.specs.Determined.{Determined, DeterminedPart}
 use Rattle.store_kinds.proofs.biometrics.state.Kinds as state-kinds
 use Rattle.store_kinds.proofs.biometrics.state.Reads as state-reads
 use Rattle.store_kinds.proofs.biometrics.written.Kinds as written-kinds
@@ -63,11 +60,10 @@ biometrics-kind_determined κs a e f p q i = ((p ∙ sym q) i, e.1)
 pub application_of_determined : Determined application-of-kinds.ps application-of-kinds.r application-of-reads.Post
 application_of_determined κs a e f p q i = ((p ∙ sym q) i, e.1)
 
--- the closure asks one test
-module _ (T : RattleType) (L : Laws T) (W : Ghosts T) (d₁ d₂ d₃ d₄ : Dict) where
-  pub present-by_determined : DeterminedFor (present-by-kinds.ps T L) (present-by-kinds.r T L) (present-by-reads.Post T L W d₁ d₂ d₃ d₄)
-      (λ κs a. (test : ℕ → Bool) × Asks ((words T W).post a.0) test)
-  present-by_determined κs a asked e f p q i = ((p asked.0 asked.1 ∙ sym (q asked.0 asked.1)) i, e.1)
+-- what tells which kinds are there may be of any type
+module _ (T : RattleType) (L : Laws T) (K : Ghosts T.Denot) (d : Dict) where
+  pub present-by_determined : Determined (present-by-kinds.ps T L) (present-by-kinds.r T L) (present-by-reads.Post T L K d)
+  present-by_determined κs a e f p q i = ((p ∙ sym q) i, e.1)
 
 pub kind_ok_determined : Determined kind-ok-kinds.ps kind-ok-kinds.r kind-ok-reads.Post
 kind_ok_determined κs a e f p q i = ((p ∙ sym q) i, e.1)

@@ -1,5 +1,5 @@
 -- The rule table of the six record files, the kinds of all files, and what a section's body must be by its kind.
-use Rattle.std.specs.Prelude.{ℕ, ◌≡◌, ◌<◌, ◌+◌, ◌^◌, Bool, true, not, ◌&&◌, ◌||◌, List, [], ◌∷◌, leb, ltb, eqb, Option, Some, None}
+use Rattle.std.specs.Prelude.{ℕ, ◌+◌, Bool, true, not, ◌&&◌, ◌||◌, List, [], ◌∷◌, leb, ltb, eqb, Option, Some, None}
 use Rattle.base.specs.Choice.{if_else, all_of}
 use Rattle.store_records.specs.Body.{body_ok}
 use Rattle.store_kinds.specs.Biometrics.{bio_ok}
@@ -77,10 +77,6 @@ there has a r = not (eqb r.application a) || has r.kind
 -- all record files of application a are there [I7]
 unfoldable pub present_by : (ℕ → Bool) → ℕ → Bool
 present_by has a = all_of (leb travel a ∷ leb a biometrics ∷ all_rules (there has a) rules ∷ [])
-
--- what a closure may answer (`post`, its calls) is what a test answers, at each kind that a call can be made with [I7]
-abbrev pub Asks : (ℕ → Bool → Type 0) → (ℕ → Bool) → Type 0
-Asks post test = (k : ℕ) (b : Bool) → k < 2 ^ 64 → post k b → b ≡ test k
 
 -- ---- a body by its kind
 

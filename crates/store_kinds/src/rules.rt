@@ -1,6 +1,6 @@
 // The rule table of the six record files, the kinds of all files, and what a body must be by its kind.
 ghost use Rattle.std.specs.Prelude.{◌≡◌, ℕ, Bool};
-ghost use Rattle.store_kinds.specs.Rules.{has_key, rule_of, is_biometrics, biometrics_kind, application_of, there, present_by, Asks, kind_ok};
+ghost use Rattle.store_kinds.specs.Rules.{has_key, rule_of, is_biometrics, biometrics_kind, application_of, there, present_by, kind_ok};
 
 use crate::biometrics;
 use store_records::body;
@@ -132,26 +132,33 @@ pub fn application_of(kind: usize) -> usize
     }
 }
 
-// Whether the record file of a rule is there, where the rule is one of the application's. `has` says which kinds are there.
-#[tactic(auto, unfolding(crate::specs::Rules::there))]
-fn there<F: Fn(usize) -> bool>(has: &F, application: usize, r: Rule) -> bool
-    requires { F.IsAlwaysCallable has.now }
-    ensures { (test : ℕ → Bool) → Asks (F.post has.now) test → result ≡ there test application r }
-{
-    r.application != application || has(r.kind)
+// What tells which kinds are there: the sections of an image, or the rows of a list.
+pub trait Kinds {
+    ghost kinds: { Self → ℕ → Bool };
+
+    // Whether a kind is there.
+    fn has(&self, kind: usize) -> bool
+        ensures { result ≡ kinds self.now kind };
 }
 
-// Whether an application is present, which it is when all its record files are there. `has` says which kinds are there.
+// Whether the record file of a rule is there, where the rule is one of the application's.
+#[tactic(auto, unfolding(crate::specs::Rules::there))]
+fn there<K: Kinds>(card: &K, application: usize, r: Rule) -> bool
+    ensures { result ≡ there (K.kinds card.now) application r }
+{
+    r.application != application || card.has(r.kind)
+}
+
+// Whether an application is present, which it is when all its record files are there.
 #[tactic(auto, unfolding(crate::specs::Rules::rules, crate::specs::Rules::present_by, base::specs::Choice::all_of))]
-pub fn present_by<F: Fn(usize) -> bool>(has: F, application: usize) -> bool
-    requires { F.IsAlwaysCallable has }
-    ensures { (test : ℕ → Bool) → Asks (F.post has) test → result ≡ present_by test application }
+pub fn present_by<K: Kinds>(card: &K, application: usize) -> bool
+    ensures { result ≡ present_by (K.kinds card.now) application }
 {
     if !(TRAVEL..=BIOMETRICS).contains(&application) {
         return false;
     }
     for rule in &RULES {
-        if !there(&has, application, *rule) {
+        if !there(card, application, *rule) {
             return false;
         }
     }

@@ -8,7 +8,7 @@ ghost use Rattle.store_image.specs.Image.{has, present, section_ok};
 ghost use Rattle.store_move_plan.specs.Rooms.{rows, zeros, no_content, sections, blank, plan};
 
 use store_kinds::biometrics::LARGEST_ROOM;
-use store_kinds::rules::{Key, application_of, find_rule, is_biometrics, present_by};
+use store_kinds::rules::{Key, Kinds, application_of, find_rule, is_biometrics, present_by};
 use store_records::little::{read16, read32};
 
 // Whether a list has a row of a kind.
@@ -23,12 +23,24 @@ pub fn listed(list: &[u8], kind: usize) -> bool
     false
 }
 
+// A list tells by its rows which kinds are there.
+#[derive(Clone, Copy)]
+struct KindsIn<'a>(&'a [u8]);
+
+impl Kinds for KindsIn<'_> {
+    ghost kinds = { λ s. has (blank s.0.now) };
+
+    fn has(&self, kind: usize) -> bool {
+        listed(self.0, kind)
+    }
+}
+
 // Whether all sections of an application have rows.
 #[tactic(auto, unfolding(store_image::specs::Image::present, crate::specs::Rooms::blank))]
 fn present(list: &[u8], application: usize) -> bool
     ensures { result ≡ present (blank list.now) application }
 {
-    present_by(|kind| listed(list, kind), application)
+    present_by(&KindsIn(list), application)
 }
 
 // Whether a kind is known and can have a room of a length: the empty body of that length is one of the kind.

@@ -12,105 +12,148 @@
 // 6, a look at the session: the line is all of its bytes.
 #![tactic(auto)]
 
+use program_console::cases::{Cases, Stop};
 use program_console::result;
 use std::alloc::Global;
 use std::io::Stdout;
+use std::process::ExitCode;
 use store_records::little::{read16, read32};
 
 // How many bytes a session has.
 const SESSION: usize = 1054;
 
-// The card's image and the session that the cases so far have left.
+// How many bytes a session in a case may have: more than one has, so that a longer buffer is lent, too.
+const SESSION_ROOM: usize = 2048;
+
+// How many bytes a response buffer may have.
+const RESPONSE_ROOM: usize = 4096;
+
+// The program at work: where it writes and where its memory comes from, the card's image and the session that the cases so far have left, and the
+// status that it ends with.
 #[derive(Drop)]
-struct Left {
+struct Chain<'s> {
+    out: Stdout,
+    alloc: Global,
     card: Vec<u8>,
     session: Vec<u8>,
+    status: &'s mut ExitCode,
 }
 
-// Each function here that answers a case is given what stands behind the case's first byte and gives what stands behind the case; none where it is
-// torn, or where memory runs out.
-
-// A card.
-fn start<'a>(out: Stdout, alloc: Global, s: &'a [u8], left: &mut Left) -> Option<&'a [u8]> {
-    let (head, s) = s.split_at_checked(64)?;
-    let (image, rest) = s.split_at_checked(read32(head, 60))?;
-    left.card = Vec::from_slice(alloc, image).ok()?;
-    left.session = vec![in alloc; 0; SESSION].ok()?;
-    let r = malquindo::malquindo_open(base::part(head, 0, 60), &mut left.session);
-    program_console::number(out, result::refusal(r));
-    program_console::end(out);
-    Some(rest)
+// The n bytes that s starts with, all where it has fewer, and what stands behind them: of a case's numbers, bytes past the end count as 0.
+fn head_at(s: &[u8], n: usize) -> (&[u8], &[u8]) {
+    s.split_at(n.min(s.len()))
 }
 
-// Writes the end of a line: a session but for the bytes of its chain.
-fn tell(out: Stdout, session: &[u8]) {
-    program_console::bytes(out, base::part(session, 0, 30));
-    program_console::end(out);
+// The n bytes that s starts with, and what stands behind them.
+fn bytes_at(s: &[u8], n: usize) -> Result<(&[u8], &[u8]), Stop> {
+    s.split_at_checked(n).ok_or(Stop::Torn)
 }
 
-// A command.
-fn command<'a>(out: Stdout, alloc: Global, s: &'a [u8], left: &mut Left) -> Option<&'a [u8]> {
-    let (head, s) = s.split_at_checked(4)?;
-    let (command, rest) = s.split_at_checked(read16(head, 2))?;
-    let mut response = vec![in alloc; 0; read16(head, 0)].ok()?;
-    let r = malquindo::malquindo_command(&mut left.card, &mut left.session, command, &mut response);
-    program_console::number(out, result::refusal(r));
-    program_console::bytes(out, base::part(&response, 0, result::length(r)));
-    tell(out, &left.session);
-    Some(rest)
+// A length, where it is no more than a case may ask for.
+fn within(n: usize, most: usize) -> Result<usize, Stop> {
+    if most < n { Err(Stop::Torn) } else { Ok(n) }
 }
 
-// A cut.
-fn cut<'a>(out: Stdout, s: &'a [u8], left: &mut Left) -> Option<&'a [u8]> {
-    let (head, s) = s.split_at_checked(4)?;
-    let (command, rest) = s.split_at_checked(read16(head, 2))?;
-    let r = malquindo::malquindo_cut(&mut left.card, &left.session, command, read16(head, 0));
-    program_console::number(out, result::refusal(r));
-    program_console::field(out, result::stores(r));
-    tell(out, &left.session);
-    Some(rest)
-}
-
-// A session. test_sample has the same lines: no public function of program_console
-// can have them, since memory may run out and each has one outcome.
-fn session<'a>(alloc: Global, s: &'a [u8], left: &mut Left) -> Option<&'a [u8]> {
-    let (head, s) = s.split_at_checked(4)?;
-    let (given, rest) = s.split_at_checked(read16(head, 2))?;
-    left.session = Vec::from_slice(alloc, given).ok()?;
-    left.session.resize(read16(head, 0), 0).ok()?;
-    Some(rest)
-}
-
-// A look, at the card's image or at the session.
-fn look(out: Stdout, title: &[u8], seen: &[u8]) {
-    program_console::word(out, title);
-    program_console::bytes(out, seen);
-    program_console::end(out);
-}
-
-// Answers the case that s starts with.
-fn case<'a>(out: Stdout, alloc: Global, s: &'a [u8], left: &mut Left) -> Option<&'a [u8]> {
-    let (kind, rest) = s.split_first()?;
-    match *kind {
-        1 => return start(out, alloc, rest, left),
-        2 => return command(out, alloc, rest, left),
-        3 => return cut(out, rest, left),
-        4 => return session(alloc, rest, left),
-        5 => look(out, b"image", &left.card),
-        6 => look(out, b"session", &left.session),
-        _ => return None,
+// Each function here that answers a case is given what stands behind the case's first byte and gives what stands behind the case.
+impl Chain<'_> {
+    // A card.
+    fn start<'a>(&mut self, s: &'a [u8]) -> Result<&'a [u8], Stop> {
+        let (head, s) = head_at(s, 64);
+        let (image, rest) = bytes_at(s, read32(head, 60))?;
+        self.card = Vec::from_slice(self.alloc, image)?;
+        self.session = vec![in self.alloc; 0; SESSION]?;
+        let r = malquindo::malquindo_open(base::part(head, 0, 60), &mut self.session);
+        program_console::number(self.out, result::refusal(r));
+        program_console::end(self.out);
+        Ok(rest)
     }
-    Some(rest)
+
+    // Writes the end of a line: a session but for the bytes of its chain.
+    fn tell(&self) {
+        program_console::bytes(self.out, base::part(&self.session, 0, 30));
+        program_console::end(self.out);
+    }
+
+    // A command.
+    fn command<'a>(&mut self, s: &'a [u8]) -> Result<&'a [u8], Stop> {
+        let (head, s) = head_at(s, 4);
+        let (command, rest) = bytes_at(s, read16(head, 2))?;
+        let room = within(read16(head, 0), RESPONSE_ROOM)?;
+        let mut response = vec![in self.alloc; 0; room]?;
+        let r = malquindo::malquindo_command(
+            &mut self.card,
+            &mut self.session,
+            command,
+            &mut response,
+        );
+        program_console::number(self.out, result::refusal(r));
+        program_console::bytes(self.out, base::part(&response, 0, result::length(r)));
+        self.tell();
+        Ok(rest)
+    }
+
+    // A cut.
+    fn cut<'a>(&mut self, s: &'a [u8]) -> Result<&'a [u8], Stop> {
+        let (head, s) = head_at(s, 4);
+        let (command, rest) = bytes_at(s, read16(head, 2))?;
+        let r = malquindo::malquindo_cut(&mut self.card, &self.session, command, read16(head, 0));
+        program_console::number(self.out, result::refusal(r));
+        program_console::field(self.out, result::stores(r));
+        self.tell();
+        Ok(rest)
+    }
+
+    // A session. More bytes than its room has are not stored at all.
+    fn session<'a>(&mut self, s: &'a [u8]) -> Result<&'a [u8], Stop> {
+        let (head, s) = head_at(s, 4);
+        let (given, rest) = bytes_at(s, read16(head, 2))?;
+        let n = within(read16(head, 0), SESSION_ROOM)?;
+        self.session = vec![in self.alloc; 0; SESSION_ROOM]?;
+        base::put(&mut self.session, 0, given);
+        self.session.truncate(n);
+        Ok(rest)
+    }
+
+    // A look, at the card's image or at the session.
+    fn look(&self, title: &[u8], seen: &[u8]) {
+        program_console::word(self.out, title);
+        program_console::bytes(self.out, seen);
+        program_console::end(self.out);
+    }
 }
 
-fn main(rt: HostRuntime) {
-    let out = rt.stdout();
+impl<'a> Cases<'a> for Chain<'_> {
+    fn answer(&mut self, s: &'a [u8]) -> Result<&'a [u8], Stop> {
+        let (kind, rest) = s.split_first().ok_or(Stop::Torn)?;
+        match *kind {
+            1 => return self.start(rest),
+            2 => return self.command(rest),
+            3 => return self.cut(rest),
+            4 => return self.session(rest),
+            5 => self.look(b"image", &self.card),
+            6 => self.look(b"session", &self.session),
+            _ => return Err(Stop::Torn),
+        }
+        Ok(rest)
+    }
+
+    fn fail(&mut self) {
+        *self.status = ExitCode::FAILURE;
+    }
+}
+
+fn main(rt: HostRuntime) -> ExitCode {
     let alloc = rt.alloc();
     let mut input = program_console::room();
     let n = program_console::read_full(rt.stdin(), &mut input);
-    let mut left = Left {
+    let mut status = ExitCode::SUCCESS;
+    let chain = Chain {
+        out: rt.stdout(),
+        alloc,
         card: Vec::new(alloc),
         session: Vec::new(alloc),
+        status: &mut status,
     };
-    program_console::cases::answer_all(out, &input[..n], |s| case(out, alloc, s, &mut left));
+    program_console::cases::answer_all(rt.stdout(), rt.stderr(), &input[..n], chain);
+    status
 }

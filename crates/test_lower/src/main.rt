@@ -11,8 +11,21 @@ mod rules;
 mod windows;
 mod writing;
 
-use std::alloc::Global;
+use program_console::cases::{Cases, Stop};
+use std::alloc::{AllocError, Global};
 use std::io::Stdout;
+use std::process::ExitCode;
+
+// How many bytes a with its zeros may have.
+const ROOM: usize = 524288;
+
+// The program at work: where it writes and where its memory comes from, and the status that it ends with.
+#[derive(Drop)]
+struct Lower<'s> {
+    out: Stdout,
+    alloc: Global,
+    status: &'s mut ExitCode,
+}
 
 // Writes what was asked and the answer, a number.
 fn tell_number(out: Stdout, title: &[u8], n: usize) {
@@ -38,13 +51,18 @@ fn tell_update(out: Stdout, title: &[u8], done: bool, changed: &[u8]) {
     program_console::bytes(out, changed);
 }
 
-// The number that s starts with, and what stands behind it.
-fn number_at(s: &[u8]) -> Option<(usize, &[u8])> {
-    let (length, s) = s.split_first()?;
-    let (digits, rest) = s.split_at_checked(usize::from(*length))?;
+// The n bytes that s starts with, and what stands behind them.
+fn bytes_at(s: &[u8], n: usize) -> Result<(&[u8], &[u8]), Stop> {
+    s.split_at_checked(n).ok_or(Stop::Torn)
+}
+
+// The number that s starts with, and what stands behind it. Of its bytes the first eight count.
+fn number_at(s: &[u8]) -> Result<(usize, &[u8]), Stop> {
+    let (length, s) = s.split_first().ok_or(Stop::Torn)?;
+    let (digits, rest) = bytes_at(s, usize::from(*length))?;
     let mut number = [0; 8];
     base::put(&mut number, 0, base::part(digits, 0, 8));
-    Some((usize::from_le_bytes(number), rest))
+    Ok((usize::from_le_bytes(number), rest))
 }
 
 // Hands a case to the module that knows it. Answers whether one did.
@@ -61,29 +79,48 @@ fn answer(out: Stdout, op: u8, x: usize, y: usize, a: &mut [u8], b: &[u8]) -> bo
     }
 }
 
-// Answers the case that s starts with, and gives what stands behind it; none where it is torn or unknown, or where memory runs out.
-fn case<'a>(out: Stdout, alloc: Global, s: &'a [u8]) -> Option<&'a [u8]> {
-    let (op, s) = s.split_first()?;
-    let (x, s) = number_at(s)?;
-    let (y, s) = number_at(s)?;
-    let (length, s) = number_at(s)?;
-    let (zeros, s) = number_at(s)?;
-    let (others, s) = number_at(s)?;
-    let (a, s) = s.split_at_checked(length)?;
-    let (b, rest) = s.split_at_checked(others)?;
-    let mut copy = Vec::from_slice(alloc, a).ok()?;
-    copy.resize(length.checked_add(zeros)?, 0).ok()?;
-    if !answer(out, *op, x, y, &mut copy, b) {
-        return None;
+// A copy of a with zeros behind it; no byte where they are more than its room has.
+fn copied(alloc: Global, a: &[u8], zeros: usize) -> Result<Vec<u8>, AllocError> {
+    if ROOM.saturating_sub(a.len()) < zeros {
+        return Ok(Vec::new(alloc));
     }
-    program_console::end(out);
-    Some(rest)
+    let mut copy = Vec::from_slice(alloc, a)?;
+    copy.resize(a.len() + zeros, 0)?;
+    Ok(copy)
 }
 
-fn main(rt: HostRuntime) {
-    let out = rt.stdout();
-    let alloc = rt.alloc();
+impl<'a> Cases<'a> for Lower<'_> {
+    fn answer(&mut self, s: &'a [u8]) -> Result<&'a [u8], Stop> {
+        let (op, s) = s.split_first().ok_or(Stop::Torn)?;
+        let (x, s) = number_at(s)?;
+        let (y, s) = number_at(s)?;
+        let (length, s) = number_at(s)?;
+        let (zeros, s) = number_at(s)?;
+        let (others, s) = number_at(s)?;
+        let (a, s) = bytes_at(s, length)?;
+        let (b, rest) = bytes_at(s, others)?;
+        let mut copy = copied(self.alloc, a, zeros)?;
+        if !answer(self.out, *op, x, y, &mut copy, b) {
+            return Err(Stop::Torn);
+        }
+        program_console::end(self.out);
+        Ok(rest)
+    }
+
+    fn fail(&mut self) {
+        *self.status = ExitCode::FAILURE;
+    }
+}
+
+fn main(rt: HostRuntime) -> ExitCode {
     let mut input = program_console::room();
     let n = program_console::read_full(rt.stdin(), &mut input);
-    program_console::cases::answer_all(out, &input[..n], |s| case(out, alloc, s));
+    let mut status = ExitCode::SUCCESS;
+    let lower = Lower {
+        out: rt.stdout(),
+        alloc: rt.alloc(),
+        status: &mut status,
+    };
+    program_console::cases::answer_all(rt.stdout(), rt.stderr(), &input[..n], lower);
+    status
 }

@@ -28,20 +28,37 @@
 // Of a session a line has the first 30 bytes (`-` where there are none) and a hash of all.
 #![tactic(auto)]
 
+ghost use Rattle.std.specs.Prelude.{◌≡◌, ◌≤◌, IfOk, replicate};
+
+use program_console::cases::{Cases, Stop};
 use program_console::result;
 use std::alloc::Global;
 use std::io::Stdout;
+use std::process::ExitCode;
 use store_records::little::{read16, read32};
 
-// The card's image and the session that the cases so far have left.
+// How many bytes a case may have or ask for: of an image, of a session, of a response or rights, of a target; and how many entries of a list. An image
+// may be longer than the largest has, and a session's buffer than a session.
+const IMAGE_ROOM: usize = 524288;
+
+const SESSION_ROOM: usize = 2048;
+
+const RESPONSE_ROOM: usize = 4096;
+
+const TARGET_ROOM: usize = 262144;
+
+const LIST_ROOM: usize = 512;
+
+// The program at work: where it writes and where its memory comes from, the card's image and the session that the cases so far have left, and the
+// status that it ends with.
 #[derive(Drop)]
-struct Left {
+struct Sample<'s> {
+    out: Stdout,
+    alloc: Global,
     card: Vec<u8>,
     session: Vec<u8>,
+    status: &'s mut ExitCode,
 }
-
-// Each function here that answers a case is given what stands behind the case's first byte and gives what stands behind the case; none where it is
-// torn, or where memory runs out.
 
 // FNV-1a in 32 bits: the hash of no byte, and the hash h, continued by a byte.
 const FIRST_HASH: u32 = 2166136261;
@@ -57,87 +74,27 @@ fn tell_hash(out: Stdout, s: &[u8]) {
     program_console::number(out, u64::from(h));
 }
 
+// The n bytes that s starts with, all where it has fewer, and what stands behind them: of a case's numbers, bytes past the end count as 0.
+fn head_at(s: &[u8], n: usize) -> (&[u8], &[u8]) {
+    s.split_at(n.min(s.len()))
+}
+
+// The n bytes that s starts with, and what stands behind them.
+fn bytes_at(s: &[u8], n: usize) -> Result<(&[u8], &[u8]), Stop> {
+    s.split_at_checked(n).ok_or(Stop::Torn)
+}
+
 // A run, with its length before it, and what stands behind it.
-fn run_at(s: &[u8]) -> Option<(&[u8], &[u8])> {
-    let (head, s) = s.split_at_checked(4)?;
-    s.split_at_checked(read32(head, 0))
+fn run_at(s: &[u8]) -> Result<(&[u8], &[u8]), Stop> {
+    let (head, s) = bytes_at(s, 4)?;
+    bytes_at(s, read32(head, 0))
 }
 
-// A new image.
-fn image<'a>(alloc: Global, s: &'a [u8], left: &mut Left) -> Option<&'a [u8]> {
-    let (image, rest) = run_at(s)?;
-    left.card = Vec::from_slice(alloc, image).ok()?;
-    Some(rest)
-}
-
-// New session bytes: those that are given, and zeros behind them. test_chain has the same lines: no public function of program_console
-// can have them, since memory may run out and each has one outcome.
-fn session<'a>(alloc: Global, s: &'a [u8], left: &mut Left) -> Option<&'a [u8]> {
-    let (head, s) = s.split_at_checked(4)?;
-    let (given, rest) = s.split_at_checked(read16(head, 2))?;
-    left.session = Vec::from_slice(alloc, given).ok()?;
-    left.session.resize(read16(head, 0), 0).ok()?;
-    Some(rest)
-}
-
-// Writes a session: most of its bytes are zeros, so the first ones and a hash tell it.
-fn tell_session(out: Stdout, session: &[u8]) {
-    program_console::bytes(out, base::part(session, 0, 30));
-    tell_hash(out, session);
-}
-
-// An opening.
-fn opening<'a>(out: Stdout, s: &'a [u8], left: &mut Left) -> Option<&'a [u8]> {
-    let (head, s) = s.split_at_checked(2)?;
-    let (rights, rest) = s.split_at_checked(read16(head, 0))?;
-    program_console::number(out, malquindo::malquindo_open(rights, &mut left.session));
-    tell_session(out, &left.session);
-    program_console::end(out);
-    Some(rest)
-}
-
-// A command.
-fn command<'a>(out: Stdout, alloc: Global, s: &'a [u8], left: &mut Left) -> Option<&'a [u8]> {
-    let (head, s) = s.split_at_checked(4)?;
-    let (command, rest) = s.split_at_checked(read16(head, 2))?;
-    let mut response = vec![in alloc; 0xA5; read16(head, 0)].ok()?;
-    let r = malquindo::malquindo_command(&mut left.card, &mut left.session, command, &mut response);
-    program_console::number(out, r);
-    program_console::bytes(out, base::part(&response, 0, result::length(r)));
-    tell_session(out, &left.session);
-    tell_hash(out, &left.card);
-    tell_hash(out, &response);
-    program_console::end(out);
-    Some(rest)
-}
-
-// A move.
-fn moved<'a>(out: Stdout, alloc: Global, s: &'a [u8], left: &mut Left) -> Option<&'a [u8]> {
-    let (head, s) = s.split_at_checked(6)?;
-    let (list, rest) = s.split_at_checked(read16(head, 4))?;
-    let mut target = vec![in alloc; 0xA5; read32(head, 0)].ok()?;
-    let r = malquindo::malquindo_move(&left.card, list, &mut target);
-    program_console::number(out, r);
-    tell_hash(out, &target);
-    program_console::end(out);
-    if result::refusal(r) == 0 {
-        target.truncate(result::moved_length(r));
-        left.card = target;
-    }
-    Some(rest)
-}
-
-// A file.
-fn file<'a>(out: Stdout, s: &'a [u8], card: &[u8]) -> Option<&'a [u8]> {
-    let (kind, rest) = s.split_first_chunk()?;
-    let r = malquindo::malquindo_file(card, u16::from_le_bytes(*kind));
-    program_console::number(out, r);
-    tell_hash(
-        out,
-        base::part(card, result::file_place(r), result::file_length(r)),
-    );
-    program_console::end(out);
-    Some(rest)
+// A length, where it is no more than a case may have or ask for.
+fn within(n: usize, most: usize) -> Result<usize, Stop>
+    ensures { IfOk result (λ k. k ≤ most) }
+{
+    if most < n { Err(Stop::Torn) } else { Ok(n) }
 }
 
 // The line of a certificate.
@@ -151,21 +108,21 @@ fn tell_certificate<'a>(out: Stdout, card: &'a [u8], desk: &'a [u8], reference: 
 }
 
 // Certificates: a line for each reference from the first to the last.
-fn certificates(out: Stdout, s: &[u8]) -> Option<&[u8]> {
-    let (references, s) = s.split_first_chunk::<2>()?;
+fn certificates(out: Stdout, s: &[u8]) -> Result<&[u8], Stop> {
+    let (references, s) = s.split_first_chunk::<2>().ok_or(Stop::Torn)?;
     let [first, last] = *references;
     let (card, s) = run_at(s)?;
     let (desk, rest) = run_at(s)?;
     for reference in first..=last {
         tell_certificate(out, card, desk, reference);
     }
-    Some(rest)
+    Ok(rest)
 }
 
 // The number of 8 bytes that s starts with, and what stands behind it.
-fn number_at(s: &[u8]) -> Option<(usize, &[u8])> {
-    let (number, rest) = s.split_first_chunk()?;
-    Some((usize::from_le_bytes(*number), rest))
+fn number_at(s: &[u8]) -> Result<(usize, &[u8]), Stop> {
+    let (number, rest) = s.split_first_chunk().ok_or(Stop::Torn)?;
+    Ok((usize::from_le_bytes(*number), rest))
 }
 
 // The line of a list that is built, extended or filled: the result, and the hash of the list's bytes.
@@ -214,97 +171,200 @@ fn ask_index(
 }
 
 // An index.
-fn index<'a>(out: Stdout, alloc: Global, s: &'a [u8]) -> Option<&'a [u8]> {
-    let (asked, s) = s.split_first()?;
-    let (kind, s) = s.split_first_chunk()?;
+fn index<'a>(out: Stdout, alloc: Global, s: &'a [u8]) -> Result<&'a [u8], Stop> {
+    let (asked, s) = s.split_first().ok_or(Stop::Torn)?;
+    let (kind, s) = s.split_first_chunk().ok_or(Stop::Torn)?;
     let (first, s) = number_at(s)?;
     let (last, s) = number_at(s)?;
-    let (count, s) = s.split_at_checked(2)?;
-    let (list, s) = s.split_at_checked(4 * read16(count, 0))?;
+    let (count, s) = bytes_at(s, 2)?;
+    let (list, s) = bytes_at(s, 4 * within(read16(count, 0), LIST_ROOM)?)?;
     let (body, rest) = run_at(s)?;
     let (entries, _) = list.as_chunks();
     let mut places = entries
         .iter()
         .map(|entry| u32::from_le_bytes(*entry))
-        .collect::<Vec<u32>>(alloc)
-        .ok()?;
+        .collect::<Vec<u32>>(alloc)?;
     let kind = u16::from_le_bytes(*kind);
     ask_index(out, *asked, kind, (first, last), body, &mut places);
-    Some(rest)
+    Ok(rest)
 }
 
 // A stamp.
-fn stamp<'a>(out: Stdout, alloc: Global, s: &'a [u8]) -> Option<&'a [u8]> {
-    let (count, s) = s.split_at_checked(2)?;
+fn stamp<'a>(out: Stdout, alloc: Global, s: &'a [u8]) -> Result<&'a [u8], Stop> {
+    let (count, s) = bytes_at(s, 2)?;
     let (record, rest) = run_at(s)?;
-    let mut places = vec![in alloc; 0xA5A5A5A5; read16(count, 0)].ok()?;
+    let entries = within(read16(count, 0), LIST_ROOM)?;
+    let mut places = vec![in alloc; 0xA5A5A5A5; entries]?;
     let r = malquindo::malquindo_stamp_read(record, &mut places);
     tell_places(out, r, &places);
-    Some(rest)
+    Ok(rest)
 }
 
 // The rights of certificates.
-fn rights<'a>(out: Stdout, alloc: Global, s: &'a [u8]) -> Option<&'a [u8]> {
-    let (length, s) = s.split_at_checked(2)?;
+fn rights<'a>(out: Stdout, alloc: Global, s: &'a [u8]) -> Result<&'a [u8], Stop> {
+    let (length, s) = bytes_at(s, 2)?;
     let (first, s) = run_at(s)?;
     let (second, s) = run_at(s)?;
     let (third, rest) = run_at(s)?;
-    let mut buffer = vec![in alloc; 0xA5; read16(length, 0)].ok()?;
+    let room = within(read16(length, 0), RESPONSE_ROOM)?;
+    let mut buffer = vec![in alloc; 0xA5; room]?;
     program_console::number(
         out,
         malquindo::malquindo_rights(first, second, third, &mut buffer),
     );
     program_console::bytes(out, &buffer);
     program_console::end(out);
-    Some(rest)
+    Ok(rest)
 }
 
-// A cut.
-fn cut<'a>(out: Stdout, s: &'a [u8], left: &mut Left) -> Option<&'a [u8]> {
-    let (stores, s) = number_at(s)?;
-    let (length, s) = s.split_at_checked(2)?;
-    let (command, rest) = s.split_at_checked(read16(length, 0))?;
-    program_console::number(
-        out,
-        malquindo::malquindo_cut(&mut left.card, &left.session, command, stores),
-    );
-    tell_hash(out, &left.card);
-    program_console::end(out);
-    Some(rest)
+// Each function here that answers a case is given what stands behind the case's first byte and gives what stands behind the case.
+impl Sample<'_> {
+    // A new image.
+    fn image<'a>(&mut self, s: &'a [u8]) -> Result<&'a [u8], Stop> {
+        let (head, s) = head_at(s, 4);
+        let (image, rest) = bytes_at(s, within(read32(head, 0), IMAGE_ROOM)?)?;
+        self.card = Vec::from_slice(self.alloc, image)?;
+        Ok(rest)
+    }
+
+    // New session bytes: those that are given, and zeros behind them.
+    fn session<'a>(&mut self, s: &'a [u8]) -> Result<&'a [u8], Stop> {
+        let (head, s) = head_at(s, 4);
+        let n = within(read16(head, 0), SESSION_ROOM)?;
+        let (given, rest) = bytes_at(s, within(read16(head, 2), n)?)?;
+        self.session = vec![in self.alloc; 0; n]?;
+        base::put(&mut self.session, 0, given);
+        Ok(rest)
+    }
+
+    // Writes a session: most of its bytes are zeros, so the first ones and a hash tell it.
+    fn tell_session(&self) {
+        program_console::bytes(self.out, base::part(&self.session, 0, 30));
+        tell_hash(self.out, &self.session);
+    }
+
+    // An opening.
+    fn opening<'a>(&mut self, s: &'a [u8]) -> Result<&'a [u8], Stop> {
+        let (head, s) = head_at(s, 2);
+        let (rights, rest) = bytes_at(s, read16(head, 0))?;
+        program_console::number(
+            self.out,
+            malquindo::malquindo_open(rights, &mut self.session),
+        );
+        self.tell_session();
+        program_console::end(self.out);
+        Ok(rest)
+    }
+
+    // A command.
+    fn command<'a>(&mut self, s: &'a [u8]) -> Result<&'a [u8], Stop> {
+        let (head, s) = head_at(s, 4);
+        let (command, rest) = bytes_at(s, read16(head, 2))?;
+        let room = within(read16(head, 0), RESPONSE_ROOM)?;
+        let mut response = vec![in self.alloc; 0xA5; room]?;
+        let r = malquindo::malquindo_command(
+            &mut self.card,
+            &mut self.session,
+            command,
+            &mut response,
+        );
+        program_console::number(self.out, r);
+        program_console::bytes(self.out, base::part(&response, 0, result::length(r)));
+        self.tell_session();
+        tell_hash(self.out, &self.card);
+        tell_hash(self.out, &response);
+        program_console::end(self.out);
+        Ok(rest)
+    }
+
+    // A move.
+    fn moved<'a>(&mut self, s: &'a [u8]) -> Result<&'a [u8], Stop> {
+        let (head, s) = head_at(s, 6);
+        let (list, rest) = bytes_at(s, read16(head, 4))?;
+        let room = within(read32(head, 0), TARGET_ROOM)?;
+        let mut target = vec![in self.alloc; 0xA5; room]?;
+        let r = malquindo::malquindo_move(&self.card, list, &mut target);
+        program_console::number(self.out, r);
+        tell_hash(self.out, &target);
+        program_console::end(self.out);
+        if result::refusal(r) == 0 {
+            target.truncate(result::moved_length(r));
+            self.card = target;
+        }
+        Ok(rest)
+    }
+
+    // A file.
+    fn file<'a>(&self, s: &'a [u8]) -> Result<&'a [u8], Stop> {
+        let (kind, rest) = s.split_first_chunk().ok_or(Stop::Torn)?;
+        let r = malquindo::malquindo_file(&self.card, u16::from_le_bytes(*kind));
+        program_console::number(self.out, r);
+        tell_hash(
+            self.out,
+            base::part(&self.card, result::file_place(r), result::file_length(r)),
+        );
+        program_console::end(self.out);
+        Ok(rest)
+    }
+
+    // A cut.
+    fn cut<'a>(&mut self, s: &'a [u8]) -> Result<&'a [u8], Stop> {
+        let (head, s) = head_at(s, 10);
+        let (command, rest) = bytes_at(s, read16(head, 8))?;
+        let stores = read32(head, 0) + 4294967296 * read32(head, 4);
+        program_console::number(
+            self.out,
+            malquindo::malquindo_cut(&mut self.card, &self.session, command, stores),
+        );
+        tell_hash(self.out, &self.card);
+        program_console::end(self.out);
+        Ok(rest)
+    }
 }
 
-// Answers the case that s starts with.
-fn case<'a>(out: Stdout, alloc: Global, s: &'a [u8], left: &mut Left) -> Option<&'a [u8]> {
-    let (kind, rest) = s.split_first()?;
-    match *kind {
-        1 => image(alloc, rest, left),
-        2 => session(alloc, rest, left),
-        3 => opening(out, rest, left),
-        4 => command(out, alloc, rest, left),
-        5 => moved(out, alloc, rest, left),
-        6 => file(out, rest, &left.card),
-        7 => certificates(out, rest),
-        8 => index(out, alloc, rest),
-        9 => stamp(out, alloc, rest),
-        10 => rights(out, alloc, rest),
-        11 => cut(out, rest, left),
-        _ => None,
+impl<'a> Cases<'a> for Sample<'_> {
+    fn answer(&mut self, s: &'a [u8]) -> Result<&'a [u8], Stop> {
+        let (kind, rest) = s.split_first().ok_or(Stop::Torn)?;
+        match *kind {
+            1 => self.image(rest),
+            2 => self.session(rest),
+            3 => self.opening(rest),
+            4 => self.command(rest),
+            5 => self.moved(rest),
+            6 => self.file(rest),
+            7 => certificates(self.out, rest),
+            8 => index(self.out, self.alloc, rest),
+            9 => stamp(self.out, self.alloc, rest),
+            10 => rights(self.out, self.alloc, rest),
+            11 => self.cut(rest),
+            _ => Err(Stop::Torn),
+        }
+    }
+
+    fn fail(&mut self) {
+        *self.status = ExitCode::FAILURE;
     }
 }
 
 // Room for all input: the sample is longer than the room that programs share.
-fn input_room() -> [u8; 786432] {
+fn input_room() -> [u8; 786432]
+    ensures { result ≡ replicate 786432 0 }
+{
     [0; 786432]
 }
 
-fn main(rt: HostRuntime) {
-    let out = rt.stdout();
+fn main(rt: HostRuntime) -> ExitCode {
     let alloc = rt.alloc();
     let mut input = input_room();
     let n = program_console::read_full(rt.stdin(), &mut input);
-    let mut left = Left {
+    let mut status = ExitCode::SUCCESS;
+    let sample = Sample {
+        out: rt.stdout(),
+        alloc,
         card: Vec::new(alloc),
         session: Vec::new(alloc),
+        status: &mut status,
     };
-    program_console::cases::answer_all(out, &input[..n], |s| case(out, alloc, s, &mut left));
+    program_console::cases::answer_all(rt.stdout(), rt.stderr(), &input[..n], sample);
+    status
 }

@@ -10,16 +10,15 @@ returns-in_err-run c =
     let p = err_from_is_err_and c.from_residual.result c.from_residual.ensures.1 in
     rw (p.1, p.2) (ran-fault _ _ _ _ (first-stops _ _ _ c.run.ensures c.in_err-run.was) refl)
 
-pub returns-in_err-run-2 : goal.returns-in_err-run-2
-returns-in_err-run-2 c =
-    let p = err_from_is_err_and c.from_residual-in_err-run-2.result c.from_residual-in_err-run-2.ensures.1 in
-    rw (p.1, p.2) (ran-fault _ _ _ _ (second-stops _ _ _ c.run.ensures c.in_ok-run.was c.run-2.ensures c.in_err-run-2.was) refl)
+pub returns-in_err-y : goal.returns-in_err-y
+returns-in_err-y c =
+    let p = err_from_is_err_and c.from_residual-in_err-y.result c.from_residual-in_err-y.ensures.1 in
+    rw (p.1, p.2) (ran-fault _ _ _ _ (second-stops _ _ _ c.run.ensures c.in_ok-run.was c.run-y.ensures c.in_err-y.was) refl)
 
-pub returns-in_err-run-3 : goal.returns-in_err-run-3
-returns-in_err-run-3 c =
-    let p = err_from_is_err_and c.from_residual-in_err-run-3.result c.from_residual-in_err-run-3.ensures.1 in
-    rw (p.1, p.2) (ran-fault _ _ _ _ (third-stops _ _ _ c.run.ensures c.in_ok-run.was c.run-2.ensures c.in_ok-run-2.was c.run-3.ensures c.in_err-run-3.was) refl)
+pub returns-in-Err : goal.returns-in-Err
+returns-in-Err c =
+    ran-fault _ _ _ _ (third-stops _ _ _ c.run.ensures c.in_ok-run.was c.run-y.ensures c.in_ok-y.was c.run-z.ensures c.in-Err.is) refl
 
 pub returns : goal.returns
 returns c =
-    ran_all _ _ _ _ _ _ _ (none-stops _ _ _ c.run.ensures c.in_ok-run.was c.run-2.ensures c.in_ok-run-2.was c.run-3.ensures c.in_ok-run-3.was) c.requires (omega arith) (omega arith) (omega arith) c.put.ensures.1 c.put-2.ensures.1 c.put-3.ensures.1
+    ran_all _ _ _ _ _ _ _ (none-stops _ _ _ c.run.ensures c.in_ok-run.was c.run-y.ensures c.in_ok-y.was c.run-z.ensures c.in_default.is) c.requires (omega arith) (omega arith) (omega arith) c.put.ensures.1 c.put-2.ensures.1 c.put-3.ensures.1

@@ -12,23 +12,23 @@ use Rattle.objects_reader.proofs.reader.+objects.Goals.{After-first}
 -- where `first` has answered a step
 turn : (t : ℕ) (c : After-first t) → (
     let a = c.args in
-    let l = c.loop-q in
-    Turn a.form.now a.s.now a.depth a.base l.row l.at a.r l.q c.first.result
+    let l = c.loop-fault in
+    Turn a.form.now a.s.now a.depth a.base l.row l.at a.r.now l.r c.first.result
     )
-turn t c = record { first = c.first.ensures; so_far = c.loop-q.invariant.2 }
+turn t c = record { first = c.first.ensures; so_far = c.loop-fault.invariant.2 }
 
 abbrev In-left : (t : ℕ) → After-first t → Step → Type 0
 In-left t c =
     let a = c.args in
-    let l = c.loop-q in
+    let l = c.loop-fault in
     StepIn (length a.form.now - l.row) a.depth (length a.s.now - l.at)
 
 -- what it says lies within what is left of s and of the rows
 said : (t : ℕ) (c : After-first t) {step : Step} → c.first.result ≡ step → In-left t c step
 said t c e = within (turn t c) e
 
-pub loop-q-init : goal.loop-q-init
-loop-q-init t c = (omega arith, omega arith, simp add-zero)
+pub loop-fault-init : goal.loop-fault-init
+loop-fault-init t c = (omega arith, omega arith, simp add-zero)
 
 pub returns-in-Done : goal.returns-in-Done
 returns-in-Done t c = turn-done (turn t (goal.at.returns-in-Done t c).After-first) c.in-Done.is
@@ -42,8 +42,8 @@ overflow_add-base-in-Plain t c = let w = said t (goal.at.overflow_add-base-in-Pl
 pub overflow_add-base-in-Plain-2 : goal.overflow_add-base-in-Plain-2
 overflow_add-base-in-Plain-2 t c = let w = said t (goal.at.overflow_add-base-in-Plain-2 t c).After-first c.in-Plain.is in omega arith
 
-pub note-q-requires : goal.note-q-requires
-note-q-requires t c = let w = said t (goal.at.note-q-requires t c).After-first c.in-Plain.is in omega arith
+pub note-requires : goal.note-requires
+note-requires t c = let w = said t (goal.at.note-requires t c).After-first c.in-Plain.is in omega arith
 
 pub overflow_add-at : goal.overflow_add-at
 overflow_add-at t c = let w = said t (goal.at.overflow_add-at t c).After-first c.in-Plain.is in omega arith
@@ -54,11 +54,11 @@ overflow_add-at-in-Plain t c = let w = said t (goal.at.overflow_add-at-in-Plain 
 pub overflow_add-row : goal.overflow_add-row
 overflow_add-row t c = let w = said t (goal.at.overflow_add-row t c).After-first c.in-Plain.is in omega arith
 
-pub loop-q-smaller-in-Plain : goal.loop-q-smaller-in-Plain
-loop-q-smaller-in-Plain t c = let w = said t (goal.at.loop-q-smaller-in-Plain t c).After-first c.in-Plain.is in omega arith
+pub loop-fault-smaller-in-Plain : goal.loop-fault-smaller-in-Plain
+loop-fault-smaller-in-Plain t c = let w = said t (goal.at.loop-fault-smaller-in-Plain t c).After-first c.in-Plain.is in omega arith
 
-pub loop-q-preserved-in-Plain : goal.loop-q-preserved-in-Plain
-loop-q-preserved-in-Plain t c = let w = said t (goal.at.loop-q-preserved-in-Plain t c).After-first c.in-Plain.is in (omega arith, omega arith, turn_plain (turn t (goal.at.loop-q-preserved-in-Plain t c).After-first) c.in-Plain.is c.note-q.ensures)
+pub loop-fault-preserved-in-Plain : goal.loop-fault-preserved-in-Plain
+loop-fault-preserved-in-Plain t c = let w = said t (goal.at.loop-fault-preserved-in-Plain t c).After-first c.in-Plain.is in (omega arith, omega arith, turn_plain (turn t (goal.at.loop-fault-preserved-in-Plain t c).After-first) c.in-Plain.is c.note.ensures)
 
 pub overflow_add-from : goal.overflow_add-from
 overflow_add-from t c = let w = said t (goal.at.overflow_add-from t c).After-first c.in-Nested.is in omega arith
@@ -96,23 +96,23 @@ overflow_add-base-in-Nested t c = let w = said t (goal.at.overflow_add-base-in-N
 pub overflow_sub-depth : goal.overflow_sub-depth
 overflow_sub-depth t c = let w = said t (goal.at.overflow_sub-depth t c).After-first c.in-Nested.is in omega arith
 
-pub loop-q-smaller-in-Nested : goal.loop-q-smaller-in-Nested
-loop-q-smaller-in-Nested t c = let w = said t (goal.at.loop-q-smaller-in-Nested t c).After-first c.in-Nested.is in omega arith
+pub loop-fault-smaller-in-Nested : goal.loop-fault-smaller-in-Nested
+loop-fault-smaller-in-Nested t c = let w = said t (goal.at.loop-fault-smaller-in-Nested t c).After-first c.in-Nested.is in omega arith
 
-pub objects-q-requires : goal.objects-q-requires
-objects-q-requires t c = let w = said t (goal.at.objects-q-requires t c).After-first c.in-Nested.is in (omega arith, simp (length-take, length-drop) (omega arith))
+pub objects-requires : goal.objects-requires
+objects-requires t c = let w = said t (goal.at.objects-requires t c).After-first c.in-Nested.is in (omega arith, simp (length-take, length-drop) (omega arith))
 
 pub returns-then-is_some : goal.returns-then-is_some
-returns-then-is_some t c = turn_stop (turn t (goal.at.returns-then-is_some t c).After-first) c.in-Nested.is c.objects-q.ensures (ap not (sym c.is_some.ensures ∙ c.if-is_some.true))
+returns-then-is_some t c = turn_stop (turn t (goal.at.returns-then-is_some t c).After-first) c.in-Nested.is c.objects.ensures (ap not (sym c.is_some.ensures ∙ c.if-is_some.true))
 
-pub loop-q-preserved-in-Nested : goal.loop-q-preserved-in-Nested
-loop-q-preserved-in-Nested t c = let w = said t (goal.at.loop-q-preserved-in-Nested t c).After-first c.in-Nested.is in (omega arith, omega arith, turn_on (turn t (goal.at.loop-q-preserved-in-Nested t c).After-first) c.in-Nested.is c.objects-q.ensures (ap not (sym c.is_some.ensures ∙ c.if-is_some.false)))
+pub loop-fault-preserved-in-Nested : goal.loop-fault-preserved-in-Nested
+loop-fault-preserved-in-Nested t c = let w = said t (goal.at.loop-fault-preserved-in-Nested t c).After-first c.in-Nested.is in (omega arith, omega arith, turn_on (turn t (goal.at.loop-fault-preserved-in-Nested t c).After-first) c.in-Nested.is c.objects.ensures (ap not (sym c.is_some.ensures ∙ c.if-is_some.false)))
 
 pub overflow_add-row-in-Absent : goal.overflow_add-row-in-Absent
 overflow_add-row-in-Absent t c = let w = said t (goal.at.overflow_add-row-in-Absent t c).After-first c.in-Absent.is in omega arith
 
-pub loop-q-smaller : goal.loop-q-smaller
-loop-q-smaller t c = let w = said t (goal.at.loop-q-smaller t c).After-first c.in-Absent.is in omega arith
+pub loop-fault-smaller : goal.loop-fault-smaller
+loop-fault-smaller t c = let w = said t (goal.at.loop-fault-smaller t c).After-first c.in-Absent.is in omega arith
 
-pub loop-q-preserved : goal.loop-q-preserved
-loop-q-preserved t c = let w = said t (goal.at.loop-q-preserved t c).After-first c.in-Absent.is in (omega arith, omega arith, turn_absent (turn t (goal.at.loop-q-preserved t c).After-first) c.in-Absent.is c.note-q-in-Absent.ensures)
+pub loop-fault-preserved : goal.loop-fault-preserved
+loop-fault-preserved t c = let w = said t (goal.at.loop-fault-preserved t c).After-first c.in-Absent.is in (omega arith, omega arith, turn_absent (turn t (goal.at.loop-fault-preserved t c).After-first) c.in-Absent.is c.note-in-Absent.ensures)

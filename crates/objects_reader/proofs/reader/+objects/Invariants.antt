@@ -11,9 +11,9 @@ use Rattle.objects_reader.proofs.reader.+objects.Given as goal
 abbrev pub decreases-objects : goal.decreases-objects
 decreases-objects l = l.depth
 
-abbrev pub invariant-loop-q : goal.invariant-loop-q
-invariant-loop-q l =
-    (l.row ≤ length l.form) × (l.at ≤ length l.s) × (read_form (form_of l.form) l.depth l.base l.s l.initial.q ≡ left l.form l.s l.depth l.base l.row l.at l.q)
+abbrev pub invariant-loop-fault : goal.invariant-loop-fault
+invariant-loop-fault l =
+    (l.row ≤ length l.form) × (l.at ≤ length l.s) × (read_form (form_of l.form) l.depth l.base l.s l.fn.r ≡ left l.form l.s l.depth l.base l.row l.at l.r)
 
-abbrev pub decreases-loop-q : goal.decreases-loop-q
-decreases-loop-q l = length l.form - l.row
+abbrev pub decreases-loop-fault : goal.decreases-loop-fault
+decreases-loop-fault l = length l.form - l.row

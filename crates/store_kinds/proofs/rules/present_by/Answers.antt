@@ -6,18 +6,13 @@ use Rattle.store_kinds.proofs.rules.present_by.Goals as goal
 
 pub returns-then-not-there : goal.returns-then-not-there
 unfolding rules
-returns-then-not-there g c test same =
-    left_missing _ _ c.loop-rule.rule-index (c.loop-rule.invariant.1 test same) (omega arith)
-    (flag_refused (c.there.ensures test same) c.if-not-there.true-raw)
+returns-then-not-there g c =
+    left_missing _ _ c.loop-rule.rule-index c.loop-rule.invariant (omega arith) (flag_refused c.there.ensures c.if-not-there.true-raw)
 
 pub loop-rule-preserved : goal.loop-rule-preserved
 unfolding rules
-loop-rule-preserved g c = (
-  c.loop-rule.invariant.0,
-  λ test same.
-      left_next _ _ c.loop-rule.rule-index (c.loop-rule.invariant.1 test same) (omega arith)
-      (flag_accepted (c.there.ensures test same) c.if-not-there.false-raw),
-)
+loop-rule-preserved g c =
+    left_next _ _ c.loop-rule.rule-index c.loop-rule.invariant (omega arith) (flag_accepted c.there.ensures c.if-not-there.false-raw)
 
 pub returns : goal.returns
-returns g c test same = left_end _ _ c.loop-rule.rule-index (c.loop-rule.invariant.1 test same) (omega arith)
+returns g c = left_end _ _ c.loop-rule.rule-index c.loop-rule.invariant (omega arith)
