@@ -17,7 +17,7 @@ ALIAS = re.compile(r'^pub type (\w+) = ([^;]+);', re.M)
 FUNCTION = re.compile(r'^pub (?:extern "C" )?fn (\w+)(?:<[^>]*>)?\([^)]*\) -> ([^\n]+)$', re.M)
 CASE = re.compile(r'^    ([A-Z]\w*)', re.M)
 NAME = re.compile(r'\b[A-Z]\w*')
-FIELD = re.compile(r'^    pub (\w+): (Option|Result)<', re.M)
+FIELD = re.compile(r'^    pub (\w+): ([^\n]*)', re.M)
 ROW = re.compile(r'^  \| `(\w+(?:::\w+(?:\.\w+)?)?)` \| `([^`]+)` \|')
 CASES = {'Option': ['Some', 'None'], 'Result': ['Ok', 'Err']}
 
@@ -49,7 +49,8 @@ def answered():
             open_ones += NAME.findall(types[name][1])
     for name in sorted(reached):
         if types[name][0] == 'struct':
-            functions.update({f'{homes[name]}::{name}.{field}': CASES[word] for field, word in FIELD.findall(types[name][1])})
+            for field, inside in FIELD.findall(types[name][1]):
+                functions.update({f'{homes[name]}::{name}.{field}': cases for word, cases in CASES.items() if word + '<' in inside})
     enums = {name: CASE.findall(inside) for name, (kind, inside) in sorted(types.items()) if kind == 'enum'}
     return functions | {name: cases for name, cases in enums.items() if name in reached}, enums
 
