@@ -40,7 +40,7 @@ fn bit(x: u8, b: usize) -> bool
     (x >> (b - 1)) % 2 == 1
 }
 
-// The 17 bytes from `at` on.
+// The 17 bytes from `at` on. They are there, so the second case never comes. (No `copy_from_slice`: its copy goes by way of the stack.)
 fn seventeen(s: &[u8], at: usize) -> [u8; 17]
     requires { at + 17 ≤ length s.now }
     ensures { result ≡ part s.now at 17 }

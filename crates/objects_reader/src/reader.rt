@@ -53,7 +53,7 @@ fn fresh() -> Reading
     }
 }
 
-// The reading with a fault noted.
+// Notes a fault and its place.
 fn spoil(r: &mut Reading, fault: Fault, at: usize)
     ensures { r.new ≡ spoilt r.old fault at }
 {

@@ -24,7 +24,8 @@ pub trait Cases<'a> {
     // Answers the case that s begins with, and gives what stands behind it.
     fn answer(&mut self, s: &'a [u8]) -> Result<&'a [u8], Stop>;
 
-    // Hears that memory has run out, so that the program's exit status says so.
+    // Hears that memory has run out, so that the program's exit status says so. (`answer_all` cannot answer it: it prints, and a public function that
+    // answers something owes a theorem that its contract determines the answer.)
     fn fail(&mut self);
 }
 

@@ -93,7 +93,7 @@ fn rows(out: Stdout, record: &[u8], at: usize, why: u64) {
     }
 }
 
-// What stands before the answer: the number, and the file.
+// What stands before the answer: the number, and which file it is of.
 fn title(out: Stdout, number: u8, file: &str) {
     program_console::word(out, b"= record");
     program_console::spell(out, &[number]);
@@ -117,8 +117,8 @@ fn tell(out: Stdout, record: &[u8]) {
 }
 
 // The record with this number, where the file has it.
-fn find(out: Stdout, b: &[u8], number: u8, name: &str) {
-    title(out, number, name);
+fn find(out: Stdout, b: &[u8], number: u8, file: &str) {
+    title(out, number, file);
     let n = usize::from(number);
     if 0 < n && n <= body::count(b) {
         tell(out, body::record(b, n));
@@ -130,11 +130,11 @@ fn find(out: Stdout, b: &[u8], number: u8, name: &str) {
 // A stamp's line, behind its first word. A card that lacks the file has an empty body for it.
 pub(crate) fn line(out: Stdout, mut words: Words, image: &[u8]) -> Result<(), Fault> {
     let number = hex::byte(&mut words)?;
-    let (kind, name) = match words.next() {
+    let (kind, file) = match words.next() {
         None => (0x0101, " of EntryRecords"),
         Some(b"exit") if words.rest.is_empty() => (0x0102, " of ExitRecords"),
         Some(_) => return Err(Fault::Unread),
     };
-    find(out, store_image::body(image, kind), number, name);
+    find(out, store_image::body(image, kind), number, file);
     Ok(())
 }

@@ -39,7 +39,8 @@ struct Chain<'s> {
     status: &'s mut ExitCode,
 }
 
-// The n bytes that s starts with, all where it has fewer, and what stands behind them: of a case's numbers, bytes past the end count as 0.
+// The n bytes that s starts with, all where it has fewer, and what stands behind them: of a case's numbers, bytes past the end count as 0. (test_sample has
+// `head_at`, `bytes_at` and `within`, too. A public function of program_console would owe a theorem of one outcome, and there is none for two parts.)
 fn head_at(s: &[u8], n: usize) -> (&[u8], &[u8]) {
     s.split_at(n.min(s.len()))
 }

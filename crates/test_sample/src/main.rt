@@ -74,7 +74,8 @@ fn tell_hash(out: Stdout, s: &[u8]) {
     program_console::number(out, u64::from(h));
 }
 
-// The n bytes that s starts with, all where it has fewer, and what stands behind them: of a case's numbers, bytes past the end count as 0.
+// The n bytes that s starts with, all where it has fewer, and what stands behind them: of a case's numbers, bytes past the end count as 0. (test_chain has
+// `head_at`, `bytes_at` and `within`, too. A public function of program_console would owe a theorem of one outcome, and there is none for two parts.)
 fn head_at(s: &[u8], n: usize) -> (&[u8], &[u8]) {
     s.split_at(n.min(s.len()))
 }
