@@ -25,7 +25,7 @@ pub trait Cases<'a> {
     fn answer(&mut self, s: &'a [u8]) -> Result<&'a [u8], Stop>;
 
     // Hears that memory has run out, so that the program's exit status says so. (`answer_all` cannot answer it: it prints, and a public function that
-    // answers something owes a theorem that its contract determines the answer.)
+    // answers something owes a theorem that its contract determines the answer. Nor can `answer_or_warn`.)
     fn fail(&mut self);
 }
 
@@ -42,9 +42,25 @@ pub fn next(out: Stdout, s: &[u8], at: usize, left: usize) -> usize
     n - left
 }
 
-// Answers the cases of s in turn, up to the first that is torn or unknown, or until memory runs out, which a line on standard error says: that case
-// is not told to be torn. The loop stays a `while`: a case says how long it is.
-pub fn answer_all<'a, C: Cases<'a> + Drop>(out: Stdout, err: Stderr, s: &'a [u8], mut cases: C)
+// Answers the cases of s in turn, up to the first that is torn or unknown, or until memory runs out. The loop stays a `while`: a case says how long
+// it is. (`answer_or_warn` has a loop of its own: with one that both call, the stack of test_lower grows by 16 bytes.)
+pub fn answer_all<'a, C: Cases<'a> + Drop>(out: Stdout, s: &'a [u8], mut cases: C)
+    ensures { Unit {0} }
+{
+    let mut at = 0;
+    while at < s.len() {
+        let rest = base::part(s, at, s.len());
+        let left = cases.answer(rest).map(|behind| behind.len());
+        if let Err(Stop::OutOfMemory) = left {
+            cases.fail();
+            return;
+        }
+        at = next(out, s, at, left.unwrap_or(rest.len()));
+    }
+}
+
+// The same, and where memory runs out, a line on standard error says so: that case is not told to be torn.
+pub fn answer_or_warn<'a, C: Cases<'a> + Drop>(out: Stdout, err: Stderr, s: &'a [u8], mut cases: C)
     ensures { Unit {0} }
 {
     let mut at = 0;
@@ -60,5 +76,67 @@ pub fn answer_all<'a, C: Cases<'a> + Drop>(out: Stdout, err: Stderr, s: &'a [u8]
             }
         };
         at = next(out, s, at, left);
+    }
+}
+
+#[cfg(test)]
+mod tests {
+    use super::*;
+
+    // Cases of two bytes, the first a digit. `digits` has those of the cases answered; an 8 is unknown, and at a 9 memory runs out.
+    #[derive(Drop)]
+    struct Pairs<'c> {
+        digits: &'c mut u32,
+        failed: &'c mut bool,
+    }
+
+    impl<'a> Cases<'a> for Pairs<'_> {
+        fn answer(&mut self, s: &'a [u8]) -> Result<&'a [u8], Stop> {
+            match s {
+                [8, ..] => Err(Stop::Torn),
+                [9, ..] => Err(Stop::OutOfMemory),
+                [digit, _, behind @ ..] => {
+                    *self.digits = self.digits.wrapping_mul(10).wrapping_add(u32::from(*digit));
+                    Ok(behind)
+                }
+                _ => Err(Stop::Torn),
+            }
+        }
+
+        fn fail(&mut self) {
+            *self.failed = true;
+        }
+    }
+
+    // The digits of the cases of s that are answered, and whether the program hears that memory has run out.
+    fn seen(rt: HostRuntime, s: &[u8], warned: bool) -> (u32, bool) {
+        let (mut digits, mut failed) = (0, false);
+        let pairs = Pairs {
+            digits: &mut digits,
+            failed: &mut failed,
+        };
+        if warned {
+            answer_or_warn(rt.stdout(), rt.stderr(), s, pairs);
+        } else {
+            answer_all(rt.stdout(), s, pairs);
+        }
+        (digits, failed)
+    }
+
+    // What no contract says: the cases are answered in turn, none behind one that is torn or unknown, and none behind one where memory runs out.
+    #[test]
+    fn answers_cases_in_turn(rt: HostRuntime) {
+        let inputs: [(&[u8], (u32, bool)); 6] = [
+            (b"", (0, false)),
+            (&[1, 0, 2, 0, 3, 0], (123, false)),
+            (&[1, 0, 2, 0, 3], (12, false)),
+            (&[1, 0, 8, 0, 3, 0], (1, false)),
+            (&[1, 0, 9, 0, 3, 0], (1, true)),
+            (&[9], (0, true)),
+        ];
+        for (s, want) in inputs {
+            assert_eq!(rt; seen(rt, s, false), want);
+            assert_eq!(rt; seen(rt, s, true), want);
+        }
     }
 }

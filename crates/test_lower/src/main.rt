@@ -121,6 +121,6 @@ fn main(rt: HostRuntime) -> ExitCode {
         alloc: rt.alloc(),
         status: &mut status,
     };
-    program_console::cases::answer_all(rt.stdout(), rt.stderr(), &input[..n], lower);
+    program_console::cases::answer_or_warn(rt.stdout(), rt.stderr(), &input[..n], lower);
     status
 }

@@ -366,6 +366,6 @@ fn main(rt: HostRuntime) -> ExitCode {
         session: Vec::new(alloc),
         status: &mut status,
     };
-    program_console::cases::answer_all(rt.stdout(), rt.stderr(), &input[..n], sample);
+    program_console::cases::answer_or_warn(rt.stdout(), rt.stderr(), &input[..n], sample);
     status
 }

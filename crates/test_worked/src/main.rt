@@ -115,6 +115,6 @@ fn main(rt: HostRuntime) -> ExitCode {
         chain: [0; machine_chain::LENGTH],
         status: &mut status,
     };
-    program_console::cases::answer_all(rt.stdout(), rt.stderr(), &input[..n], worked);
+    program_console::cases::answer_or_warn(rt.stdout(), rt.stderr(), &input[..n], worked);
     status
 }
