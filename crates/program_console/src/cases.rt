@@ -59,7 +59,7 @@ pub fn answer_all<'a, C: Cases<'a> + Drop>(out: Stdout, s: &'a [u8], mut cases: 
     }
 }
 
-// The same, and where memory runs out, a line on standard error says so: that case is not told to be torn.
+// The same, by the same `while`, and where memory runs out, a line on standard error says so: that case is not told to be torn.
 pub fn answer_or_warn<'a, C: Cases<'a> + Drop>(out: Stdout, err: Stderr, s: &'a [u8], mut cases: C)
     ensures { Unit {0} }
 {
