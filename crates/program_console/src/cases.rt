@@ -24,8 +24,8 @@ pub trait Cases<'a> {
     // Answers the case that s begins with, and gives what stands behind it.
     fn answer(&mut self, s: &'a [u8]) -> Result<&'a [u8], Stop>;
 
-    // Hears that memory has run out, so that the program's exit status says so. (`answer_all` cannot answer it: it prints, and a public function that
-    // answers something owes a theorem that its contract determines the answer. Nor can `answer_or_warn`.)
+    // Hears that memory has run out, so that the program's exit status says so. (`answer_all` and `answer_or_warn` do not answer it: they print, and a
+    // public function that answers something owes a theorem that its contract determines the answer.)
     fn fail(&mut self);
 }
 
@@ -42,8 +42,8 @@ pub fn next(out: Stdout, s: &[u8], at: usize, left: usize) -> usize
     n - left
 }
 
-// Answers the cases of s in turn, up to the first that is torn or unknown, or until memory runs out. The loop stays a `while`: a case says how long
-// it is. (`answer_or_warn` has a loop of its own: with one that both call, the stack of test_lower grows by 16 bytes.)
+// Answers the cases of s in turn, up to the first that is torn or unknown, or until memory runs out, which `fail` hears. The loop stays a `while`: a
+// case says how long it is. (`answer_or_warn` has a loop of its own: with one that both call, the stack of test_lower grows by 16 bytes.)
 pub fn answer_all<'a, C: Cases<'a> + Drop>(out: Stdout, s: &'a [u8], mut cases: C)
     ensures { Unit {0} }
 {
@@ -59,7 +59,7 @@ pub fn answer_all<'a, C: Cases<'a> + Drop>(out: Stdout, s: &'a [u8], mut cases: 
     }
 }
 
-// The same, by the same `while`, and where memory runs out, a line on standard error says so: that case is not told to be torn.
+// The same, and where memory runs out, a line on standard error says so: that case is not told to be torn. The loop stays a `while`, as above.
 pub fn answer_or_warn<'a, C: Cases<'a> + Drop>(out: Stdout, err: Stderr, s: &'a [u8], mut cases: C)
     ensures { Unit {0} }
 {
